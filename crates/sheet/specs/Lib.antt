@@ -1,0 +1,6 @@
+pub mod Sheets
+pub mod Faults
+pub mod Parts
+pub mod Parse
+pub mod Render
+pub mod Trip
