@@ -1,0 +1,3 @@
+mod ReadParts
+mod ReadLines
+mod ReadStored
