@@ -1,0 +1,4 @@
+// Worked cases, run and compared.
+
+#[cfg(test)]
+mod reading;
