@@ -4,3 +4,4 @@ pub mod fault;
 pub mod line;
 pub mod literal;
 pub mod read;
+pub mod write;
