@@ -315,7 +315,7 @@ parts-read i n m bad t r₁ a₂ r₂ a₃ r₃ r₄ z head ls gs bd none xs sam
     let is : i ∷ n ∷ m ∷ bad ∷ (ls .list ++ gs .list) ≡ xs = ap (λ r. i ∷ n ∷ m ∷ bad ∷ r) (sym pairs) ∙ same in
     subst (λ xs. Read t xs z) is (whole-read i n m bad (ls .list) (gs .list) t z whole)
 
-lines-read : (t xs : List ℕ) (z : ℕ) → parseLines t ≡ Ok xs → Read t xs z
+pub lines-read : (t xs : List ℕ) (z : ℕ) → parseLines t ≡ Ok xs → Read t xs z
 lines-read t xs z h =
     let s₁ = andThen-inv (readContents t) (λ c. parseRest (c .0) (c .1) (c .2) (c .3)) xs h in
     let i = s₁ .0 .0 in

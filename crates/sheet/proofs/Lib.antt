@@ -10,3 +10,5 @@ pub mod Trips
 mod Limits
 mod Joins
 mod Written
+mod ReadSteps
+pub mod ReadFirst

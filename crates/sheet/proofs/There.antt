@@ -26,12 +26,12 @@ clear-append : (c : ℕ) (s t : List ℕ) → Clear c s → Clear c t → Clear 
 clear-append c [] t h k = k
 clear-append c (x ∷ s) t h k = (h .0, clear-append c s t (h .1) k)
 
-upTo-clear : (c : ℕ) (s r : List ℕ) → Clear c s → upTo c (s ++ (c ∷ r)) ≡ length s
+pub upTo-clear : (c : ℕ) (s r : List ℕ) → Clear c s → upTo c (s ++ (c ∷ r)) ≡ length s
 upTo-clear c [] r h = cond-true _ _ _ (eq-eqb c c refl)
 upTo-clear c (x ∷ s) r h = cond-false _ _ _ (ne-eqb x c (h .0)) ∙ ap suc (upTo-clear c s r (h .1))
 
 -- a line and what follows it
-lineOf-text : (p : ℕ) (body r : List ℕ) → Clear 10 body → lineOf p (body ++ (10 ∷ r)) ≡ Ok (body, r)
+pub lineOf-text : (p : ℕ) (body r : List ℕ) → Clear 10 body → lineOf p (body ++ (10 ∷ r)) ≡ Ok (body, r)
 lineOf-text p body r h =
     let t = body ++ (10 ∷ r) in
     let at = upTo-clear 10 body r h in

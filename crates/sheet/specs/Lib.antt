@@ -4,4 +4,5 @@ pub mod Parts
 pub mod Parse
 pub mod Seen
 pub mod Render
+pub mod FirstLine
 pub mod Trip
