@@ -9,6 +9,7 @@ ghost use Rattle.sheet.specs.Faults.{mapOk};
 ghost use Rattle.sheet.specs.Parts.{upTo, spelled, spaced, former, further, latter, shape, seen};
 ghost use Rattle.sheet.specs.Parse.{refusal, lineOf, triplesIf, partsIf, partIf, numberOf, readContents, letter, inRange, ordered, readPair, readPairs, readBad, parse, readText};
 ghost use Rattle.sheet.specs.FirstLine.{Judged};
+ghost use Rattle.sheet.specs.Trip.{Accepts-legal-sheets, WritesBack};
 ghost use Rattle.sheet.specs.Seen.{lineSeen, triplesSeen, partsSeen, partSeen, contentsSeen, pairSeen, restSeen, badSeen, wholeSeen};
 use crate::fault::Fault;
 use crate::fault::Layer;
@@ -365,6 +366,8 @@ fn store(list: &mut [u32], head: Head, pairs: &[u32])
 pub fn read(text: &[u8], list: &mut [u32]) -> Result<usize, Fault>
     ensures reads_exactly_the_format { λ r. ⌜ (r, now (list .exit)) ≡ readText (now (text .entry)) (now (list .entry)) ⌝ }
     ensures names_the_first_wrong_line { λ r. ⌜ Judged (now (text .entry)) r ⌝ }
+    ensures accepts_legal_sheets { λ _. ⌜ Accepts-legal-sheets ⌝ }
+    ensures is_written_back { λ r. ⌜ made r (λ _. WritesBack (now (text .entry)) (now (list .exit))) ⌝ }
 {
     let mut pairs = [0; 448];
     let head = read_all(text, &mut pairs)?;

@@ -5,6 +5,7 @@ use borrow.Author.Needs.{needs}
 use Rattle.std.proofs.shelf.Results.{err-from-errBy}
 use Rattle.sheet.proofs.ReadStored.{read-refused, read-short, read-stored}
 use Rattle.sheet.proofs.ReadFirst.{judged}
+use Rattle.sheet.proofs.Trips.{accepts, read-again}
 use Rattle.sheet.proofs.read.read.Needs as need
 
 pub returns-in-Break-head : need.returns-in-Break-head
@@ -14,6 +15,8 @@ returns-in-Break-head c =
     record {
       reads-exactly-the-format = rw (p .1, p .2) whole;
       names-the-first-wrong-line = rw (p .1, p .2) (judged (c .args .text .now) (c .args .list .now) (c .args .list .now) _ whole);
+      accepts-legal-sheets = accepts;
+      is-written-back = rw (p .1) tt;
     }
 
 pub returns-then-places-count : need.returns-then-places-count
@@ -23,10 +26,17 @@ returns-then-places-count c =
     record {
       reads-exactly-the-format = rw (c .refuse .ensures) whole;
       names-the-first-wrong-line = rw (c .refuse .ensures) (judged (c .args .text .now) (c .args .list .now) (c .args .list .now) _ whole);
+      accepts-legal-sheets = accepts;
+      is-written-back = tt;
     }
 
 pub returns : need.returns
 returns c =
     let h = c .in-Continue-head .head in
     let whole = read-stored (c .args .text .now) (c .args .list .now) (c .read-all .last .pairs) (c .store .last .list) h (c .counted-len-places .result) (2 * (h .counts .latches + h .counts .gates)) (c .in-Continue-head .ensures tt .read-off) refl (search needs) (c .counted-len-places .ensures) (omega arith) (c .store .ensures) in
-    record { reads-exactly-the-format = whole; names-the-first-wrong-line = judged (c .args .text .now) (c .args .list .now) _ _ whole }
+    record {
+      reads-exactly-the-format = whole;
+      names-the-first-wrong-line = judged (c .args .text .now) (c .args .list .now) _ _ whole;
+      accepts-legal-sheets = accepts;
+      is-written-back = read-again (c .args .text .now) (c .args .list .now) _ _ whole;
+    }
