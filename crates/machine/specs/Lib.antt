@@ -1,0 +1,4 @@
+pub mod Bits
+pub mod Values
+pub mod Runs
+pub mod Depth
