@@ -1,3 +1,4 @@
 pub mod Count
 pub mod Steps
 pub mod Depths
+pub mod Values
