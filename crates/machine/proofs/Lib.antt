@@ -2,3 +2,7 @@ pub mod Count
 pub mod Steps
 pub mod Depths
 pub mod Values
+pub mod Operands
+pub mod Covered
+pub mod Plain
+mod Feeding

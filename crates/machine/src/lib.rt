@@ -1,10 +1,3 @@
-// The machine that a sheet describes.
-ghost use Rattle.sheet.specs.Sheets.{Sheet};
-ghost use Rattle.machine.specs.Depth.{HasReverseDepth};
-
-// Every sheet has exactly one reverse depth.
-pub fn reverse_depth_exists() -> u8
-    ensures { λ _. ⌜ ((s : Sheet) → HasReverseDepth s) ⌝ }
-{
-    0
-}
+// The machine that a sheet describes: its reverse depth, and its steps.
+pub mod depth;
+pub mod simulate;

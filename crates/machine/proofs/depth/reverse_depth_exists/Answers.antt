@@ -1,5 +1,5 @@
 use Rattle.machine.proofs.Depths.{has-reverse-depth}
-use Rattle.machine.proofs.reverse_depth_exists.Needs as need
+use Rattle.machine.proofs.depth.reverse_depth_exists.Needs as need
 
 pub returns : need.returns
 returns c = has-reverse-depth
