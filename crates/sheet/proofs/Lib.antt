@@ -1,0 +1,6 @@
+pub mod Legality
+mod Stages
+mod Spelling
+mod There
+mod Again
+pub mod Trips
