@@ -156,3 +156,6 @@ has-reverse-depth s =
       bounded = d .1;
       none = λ unreached. omega (arith, d .2 .least 0 (λ c m h. absurd (unreached c m h)));
     }
+
+pub depth-low : (s : Sheet) (r : ℕ) → ReverseDepth s r → r ≤ 2 ^ s .latches
+depth-low s r h = let d = has-reverse-depth s in omega (arith, d .only r h, d .bounded)

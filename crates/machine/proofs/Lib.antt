@@ -6,3 +6,4 @@ pub mod Operands
 pub mod Covered
 pub mod Plain
 mod Feeding
+mod Refusals

@@ -1,20 +1,28 @@
 -- At plain bits a step is the machine's own. Assumes nothing.
 use mathlib.Core.Bool.{Bool, true, false, not, cond, _&&_}
 use mathlib.Core.List.{List}
-use mathlib.Core.Path.{_≡_, refl, sym, _∙_}
+use mathlib.Core.Logic.{⊎-elim}
+use mathlib.Core.Path.{_≡_, refl, sym, subst, _∙_}
 use Prim.Native.Nat.{ℕ, _<_}
 use native.Mathlib.Omega.{arith}
 use lib.ListN.{length, getD}
 use Rattle.std.proofs.shelf.Lists.{getD-default}
-use Rattle.std.proofs.shelf.Tests.{not-true}
+use Rattle.std.proofs.shelf.Tests.{cases-bool, cases-eq, not-true}
+use Rattle.std.specs.Vec.{made}
+use Rattle.std.specs.declared.result.Result.{Result}
+use Rattle.lists.specs.Counted.{counted, onCounted}
+use Rattle.sheet.specs.Render.{wellFormed}
 use Rattle.sheet.specs.Sheets.{Sheet, Legal, sheetOf, inputCount, latchCount, nodeCount}
+use Rattle.sheet.specs.declared.fault.Fault.{Fault}
+use Rattle.sheet.proofs.Legality.{wellFormed-legal}
 use Rattle.signal.specs.Kinds.{bitOps, mayBit}
 use Rattle.signal.specs.Sets.{exactly, nots, ands}
 use Rattle.signal.specs.Sound.{Sound}
 use Rattle.signal.proofs.Cover.{exactly-self}
-use Rattle.machine.specs.Simulate.{nodeSignals, stepSignals, MayBe, CoversStep, IsStep}
+use Rattle.machine.specs.Simulate.{nodeSignals, stepSignals, simulated, MayBe, CoversStep, IsStep}
 use Rattle.machine.specs.Values.{values}
 use Rattle.machine.proofs.Covered.{nodes-length, nodes-cover, step-covers}
+use Rattle.machine.proofs.Refusals.{not-legal, not-a-state, not-inputs, stepped-by}
 
 exactly-same : (a b : Bool) → exactly a b ≡ true → a ≡ b
 exactly-same true b h = sym h
@@ -75,3 +83,31 @@ module _ (l : List ℕ) (legal : Legal l) (inputs state : List Bool) (many : len
   bits-step =
       plain-step (sheetOf l) state inputs _ _ wide many
       (step-covers mayBit 0 bits-sound l legal inputs state many wide (bitAt state) (bitAt inputs) (bits-may state) (bits-may inputs))
+
+-- what a call on lent bits answers and leaves is a step, unless it refuses
+module _ (l : List ℕ) (inputs state : List Bool) where
+  abbrev Made : Result Bool Fault × List Bool → Type 0
+  Made p = made (p .0) (λ bad. IsStep (sheetOf l) state inputs bad (p .1))
+
+  abbrev answer : Result Bool Fault × List Bool
+  answer = onCounted (simulated bitOps l (counted inputs)) state
+
+  at-sizes : Legal l → length state ≡ latchCount l → length inputs ≡ inputCount l → Made answer
+  at-sizes legal wide many =
+      subst Made (stepped-by bitOps l inputs state legal wide many) (bits-step l legal inputs state many wide)
+
+  at-state : Legal l → length state ≡ latchCount l → Made answer
+  at-state legal wide =
+      ⊎-elim (at-sizes legal wide) (λ fails. subst Made (not-inputs bitOps l inputs state legal wide fails) tt)
+      (cases-eq (length inputs) (inputCount l))
+
+  at-legal : wellFormed l ≡ true → Made answer
+  at-legal formed =
+      let legal = wellFormed-legal l formed in
+      ⊎-elim (at-state legal) (λ fails. subst Made (not-a-state bitOps l inputs state legal fails) tt)
+      (cases-eq (length state) (latchCount l))
+
+  pub lent-step : (r : Result Bool Fault) (next : List Bool) → (r, next) ≡ answer → Made (r, next)
+  lent-step r next is =
+      subst Made (sym is)
+      (⊎-elim at-legal (λ fails. subst Made (not-legal bitOps l inputs state fails) tt) (cases-bool (wellFormed l)))

@@ -2,5 +2,6 @@ pub mod Bits
 pub mod Values
 pub mod Runs
 pub mod Depth
+pub mod Faults
 pub mod Room
 pub mod Simulate

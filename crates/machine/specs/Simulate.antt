@@ -8,19 +8,14 @@ use lib.ListN.{length, getD, take, drop, replicate}
 use Rattle.std.specs.Iters.{counting}
 use Rattle.std.specs.declared.result.Result.{Result}
 use Rattle.std.specs.declared.result.Result.the-variants.{Ok, Err}
-use Rattle.sheet.specs.Faults.{fault}
 use Rattle.sheet.specs.Render.{wellFormed}
 use Rattle.sheet.specs.Sheets.{Sheet, inputCount, latchCount, gateCount, badOf, nextOf, leftPlace, gateNode}
 use Rattle.sheet.specs.declared.fault.Fault.{Fault}
-use Rattle.sheet.specs.declared.fault.Layer.the-variants.{Machine}
 use Rattle.signal.specs.Circuit.{Ops, nodeOf, gatesOf}
 use Rattle.signal.specs.Truth.{lit}
+use Rattle.machine.specs.Faults.{refusal}
 use Rattle.machine.specs.Runs.{State, Frame, Follows, valueIn}
 use Rattle.machine.specs.Values.{values}
-
--- the refusals of a machine, by number and place
-abbrev pub refusal : ℕ → ℕ → Fault
-refusal n p = fault Machine n p
 
 -- the operands of the gates, in pairs
 abbrev pub operands : List ℕ → List ℕ

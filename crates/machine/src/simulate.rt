@@ -1,14 +1,21 @@
 // One step of a machine, by the same code at every kind of signal.
 ghost use mathlib.Core.Path.{_≡_};
-ghost use mathlib.Core.Bool.{false};
+ghost use mathlib.Core.Bool.{Bool, false};
 ghost use mathlib.Core.List.{_++_};
-ghost use Prim.Native.Nat.{_+_, _/_, _<_, _≤_};
+ghost use Prim.Native.Nat.{ℕ, _+_, _/_, _<_, _≤_};
 ghost use lib.ListN.{length, getD, take, drop, replicate};
-ghost use Rattle.sheet.specs.Sheets.{Legal, inputCount, latchCount, nodeCount, nextOf};
+ghost use Rattle.std.specs.Vec.{made};
+ghost use Rattle.lists.specs.Counted.{counted, onCounted};
+ghost use Rattle.sheet.specs.Sheets.{Legal, sheetOf, inputCount, latchCount, nodeCount};
 ghost use Rattle.signal.specs.Circuit.{nodeOf};
+ghost use Rattle.signal.specs.Kinds.{bitOps};
 ghost use Rattle.machine.specs.Room.{Small};
-ghost use Rattle.machine.specs.Simulate.{operands, nextSignals, stepSignals};
+ghost use Rattle.machine.specs.Simulate.{operands, nextSignals, stepSignals, simulated, MayBe, CoversStep, IsStep};
+use crate::refuse;
+use lists::counted;
+use sheet::fault::Fault;
 use sheet::literal::Literal;
+use sheet::write::is_legal;
 use signal::Signal;
 use signal::gate_values;
 use signal::kinds::BoolSignal;
@@ -103,4 +110,31 @@ fn step<S: NodeSignal>(sheet: &[u32], state: &mut [S], inputs: &[S]) -> S
 {
     let mut scratch = [S::bit(false); MOST_NODES];
     step_in(sheet, state, inputs, &mut scratch)
+}
+
+// One step of the machine that `sheet` lays out: the signal of its bad literal, and in `state` the next state.
+// It refuses a list that is not legal, and lists that have not exactly a signal for each latch and each input.
+pub fn simulate<S: NodeSignal>(sheet: &[u32], state: &mut [S], inputs: &[S]) -> Result<S, Fault>
+    ensures steps_by_the_gate_values { λ r. ⌜ (r, now (state .exit)) ≡ onCounted (simulated (S·Signal .ops) (counted (now (sheet .entry))) (counted (now (inputs .entry)))) (now (state .entry)) ⌝ }
+    ensures covers_every_choice { λ r. ⌜ ((i : ℕ) (c x : ℕ → Bool) → i < S·Signal .lanes → MayBe (S·Signal .may) i (counted (now (state .entry))) c → MayBe (S·Signal .may) i (counted (now (inputs .entry))) x → made r (λ bad. CoversStep (S·Signal .may) i (sheetOf (counted (now (sheet .entry)))) c x bad (now (state .exit)))) ⌝ }
+{
+    if !is_legal(sheet) {
+        return Err(refuse(21, 0));
+    }
+    let sheet = counted(sheet);
+    if state.len() != sheet[1] as usize {
+        return Err(refuse(31, 0));
+    }
+    if inputs.len() != sheet[0] as usize {
+        return Err(refuse(31, 1));
+    }
+    Ok(step(sheet, state, inputs))
+}
+
+// The same at plain bits, where it is exactly a step of the machine.
+pub fn simulate_bits(sheet: &[u32], state: &mut [bool], inputs: &[bool]) -> Result<bool, Fault>
+    ensures steps_by_the_gate_values { λ r. ⌜ (r, now (state .exit)) ≡ onCounted (simulated bitOps (counted (now (sheet .entry))) (counted (now (inputs .entry)))) (now (state .entry)) ⌝ }
+    ensures is_a_step_of_the_machine { λ r. ⌜ made r (λ bad. IsStep (sheetOf (counted (now (sheet .entry)))) (now (state .entry)) (now (inputs .entry)) bad (now (state .exit))) ⌝ }
+{
+    simulate(sheet, state, inputs)
 }
