@@ -4,3 +4,6 @@ mod Spelling
 mod There
 mod Again
 pub mod Trips
+mod Limits
+mod Joins
+mod Written

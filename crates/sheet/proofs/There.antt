@@ -2,27 +2,25 @@
 use mathlib.Core.Path.{_≡_, refl, sym, ap, subst, _∙_}
 use mathlib.Core.Bool.{true, _&&_}
 use mathlib.Core.List.{List, [], _∷_, _++_}
-use Prim.Native.Nat.{ℕ, zero, suc, _+_, _-_, _*_, _≤_, _<_}
+use Prim.Native.Nat.{ℕ, zero, suc, _+_, _*_, _≤_, _<_}
 use native.Mathlib.Omega.{arith}
-use lib.Dec.{eqb, leb, ltb}
+use lib.Dec.{leb, ltb}
 use lib.ListN.{length, getD, take, drop}
 use lib.Seq.{take-add}
 use Rattle.std.specs.declared.option.Option.the-variants.{Some}
-use Rattle.std.specs.declared.result.Result.{Result}
 use Rattle.std.specs.declared.result.Result.the-variants.{Ok, Err}
 use Rattle.std.proofs.shelf.Lists.{append-assoc, append-nil, length-append, length-drop, take-at, drop-at, drop-drop}
 use Rattle.std.proofs.shelf.Tests.{cond-true, cond-false, lt-ltb, le-leb, leb-true, eq-eqb, ne-eqb, and-from, and-parts}
-use Rattle.sheet.specs.declared.fault.Fault.{Fault}
 use Rattle.sheet.specs.declared.line.Due.{Due}
 use Rattle.sheet.specs.declared.line.Due.the-variants.{OfLatch, OfGate}
-use Rattle.sheet.specs.Sheets.{badOf, mostLiteral, sizeOf, inputCount, latchCount, gateCount}
-use Rattle.sheet.specs.Faults.{andThen, demand, given}
+use Rattle.sheet.specs.Sheets.{badOf, mostLiteral, sizeOf}
+use Rattle.sheet.specs.Faults.{andThen, given}
 use Rattle.sheet.specs.Parts.{upTo, spelled, spaced, former, further, latter}
-use Rattle.sheet.specs.Parse.{refusal, lineOf, triplesIf, partsIf, partIf, numberOf, letter, topOf, inRange, ordered, readContents, readPair, readPairs, readBad, parseRest, parseLines, parse}
-use Rattle.sheet.specs.Render.{digits, numbersText, lineText, pairsText, pairsFit, textBy, textOf, fits, wellFormed}
+use Rattle.sheet.specs.Parse.{refusal, lineOf, triplesIf, partsIf, numberOf, letter, topOf, inRange, ordered, readContents, readPair, readPairs, readBad, parseRest, parseLines, parse}
+use Rattle.sheet.specs.Render.{digits, numbersText, lineText, pairsText, pairsFit, textBy, textOf, wellFormed}
 use Rattle.sheet.proofs.Legality.{Fits, fits-parts, pairFits}
 use Rattle.sheet.proofs.Spelling.{Clear, digits-clear, digits-few, spelled-digits}
-use Rattle.sheet.proofs.Stages.{contentsIf, contentsOf, contentsFrom, pairIf, pairOf, pairFrom, badIf, badBy, badFrom, lastOf, gatesOf, latchesOf}
+use Rattle.sheet.proofs.Stages.{contentsIf, contentsOf, contentsFrom, pairIf, pairOf, pairFrom, badIf, badFrom, lastOf, gatesOf, latchesOf}
 
 clear-append : (c : ℕ) (s t : List ℕ) → Clear c s → Clear c t → Clear c (s ++ t)
 clear-append c [] t h k = k

@@ -1,27 +1,26 @@
 -- Reading and writing undo each other. Assumes nothing.
 use mathlib.Core.Path.{_≡_, refl, sym, ap, subst, _∙_}
-use mathlib.Core.Bool.{Bool, true, false, cond, _&&_}
+use mathlib.Core.Bool.{true}
 use mathlib.Core.List.{List, [], _∷_, _++_}
 use mathlib.Core.Logic.{⊎-elim}
 use Prim.Native.Nat.{ℕ, _+_, _-_, _*_, _^_, _≤_, _<_}
 use native.Mathlib.Omega.{arith}
 use lib.Dec.{leb, eqb, lit<}
-use lib.ListN.{length, getD, take, drop, replicate}
+use lib.ListN.{length, take, drop, replicate}
 use Rattle.std.specs.declared.result.Result.{Result}
 use Rattle.std.specs.declared.result.Result.the-variants.{Ok, Err}
-use Rattle.std.specs.Vec.{made}
-use Rattle.std.proofs.shelf.Lists.{append-assoc, append-nil, length-append, length-take, length-drop, length-take-le, length-replicate, take-all, take-at, drop-all, take-append-drop, getD-take}
-use Rattle.std.proofs.shelf.Tests.{cond-true, cond-false, le-leb, lt-leb, leb-true, leb-false, eqb-true, and-parts, cases-bool, cases-lt, both-ways}
+use Rattle.std.proofs.shelf.Lists.{append-nil, length-append, length-take, length-drop, length-take-le, length-replicate, take-all, take-at, drop-all, take-append-drop, getD-take}
+use Rattle.std.proofs.shelf.Tests.{cond-true, cond-false, le-leb, leb-true, eqb-true, and-parts, cases-bool, cases-lt}
 use Rattle.lists.specs.Counted.{counted, uncounted, onCounted}
 use Rattle.sheet.specs.declared.fault.Fault.{Fault}
-use Rattle.sheet.specs.Sheets.{Legal, sizeOf, inputCount, latchCount, gateCount}
+use Rattle.sheet.specs.Sheets.{sizeOf, inputCount, latchCount, gateCount}
 use Rattle.sheet.specs.Parse.{parse, stored, readText, refusal}
-use Rattle.sheet.specs.Render.{allZero, wellFormed, textOf, placed, rendered, writeText}
-use Rattle.sheet.specs.Trip.{Iff, ReadsTo, ReadsBack, WritesBack, Accepts-legal-sheets}
+use Rattle.sheet.specs.Render.{allZero, wellFormed, textOf, placed, rendered}
+use Rattle.sheet.specs.Trip.{ReadsBack, WritesBack, Accepts-legal-sheets}
 use Rattle.sheet.proofs.Legality.{fits-parts, wellFormed-legal, legal-wellFormed}
-use Rattle.sheet.proofs.Stages.{err-not, ok-same}
+use Rattle.sheet.proofs.Stages.{err-not}
 use Rattle.sheet.proofs.There.{there}
-use Rattle.sheet.proofs.Again.{Read, again}
+use Rattle.sheet.proofs.Again.{again}
 
 pub accepts : Accepts-legal-sheets
 accepts t l = (
