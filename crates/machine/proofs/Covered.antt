@@ -1,10 +1,10 @@
 -- A step at any kind of signal covers the steps of the machine: what the signals may be before it, their next ones may be after
 -- it. Assumes nothing.
 use mathlib.Core.Bool.{Bool, true, false, not, cond}
-use mathlib.Core.List.{List, [], _∷_, _++_}
+use mathlib.Core.List.{List, _++_}
 use mathlib.Core.Logic.{⊎-elim}
-use mathlib.Core.Path.{_≡_, refl, sym, ap, subst, _∙_}
-use Prim.Native.Nat.{ℕ, zero, suc, _+_, _-_, _*_, _/_, _%_, _≤_, _<_}
+use mathlib.Core.Path.{_≡_, sym, ap, _∙_}
+use Prim.Native.Nat.{ℕ, zero, suc, _+_, _-_, _/_, _%_, _≤_, _<_}
 use native.Mathlib.Omega.{arith}
 use lib.Dec.{eqb}
 use lib.ListN.{length, getD, replicate}
@@ -12,17 +12,18 @@ use Rattle.std.proofs.shelf.Counted.{length-map-counting, getD-map-counting}
 use Rattle.std.proofs.shelf.Lists.{getD-append-left, getD-append-right, length-append, length-replicate}
 use Rattle.std.proofs.shelf.Tests.{cases-lt}
 use Rattle.sheet.specs.Sheets.{Legal, sheetOf, inputCount, latchCount, gateCount, badOf, nextOf, literalLimit, gateNode, nodeCount}
-use Rattle.signal.specs.Circuit.{Ops, nodeOf, gatesOf}
+use Rattle.signal.specs.Circuit.{Ops, nodeOf}
 use Rattle.signal.specs.Covers.{CoversTo}
 use Rattle.signal.specs.Sets.{nots}
 use Rattle.signal.specs.Sound.{Sound}
 use Rattle.signal.specs.Truth.{lit}
-use Rattle.signal.proofs.Cover.{exactly-self, covers-gated}
+use Rattle.signal.proofs.Cover.{covers-gated}
 use Rattle.signal.proofs.Fixed.{length-gates}
-use Rattle.machine.specs.Simulate.{operands, fedSignals, nodeSignals, nextSignals, stepSignals, MayBe, CoversStep}
+use Rattle.machine.specs.Fits.{Settled}
+use Rattle.machine.specs.Simulate.{operands, fedSignals, nodeSignals, stepSignals, MayBe, CoversStep}
 use Rattle.machine.specs.Values.{values}
 use Rattle.machine.proofs.Operands.{operands-length, operands-ordered, values-gated}
-use Rattle.machine.proofs.Values.{Settled, legal-ascends, settled}
+use Rattle.machine.proofs.Values.{legal-ascends, settled}
 
 nots-has : (p : Bool → Bool) (b : Bool) → p b ≡ true → nots p (not b) ≡ true
 nots-has p true h = h

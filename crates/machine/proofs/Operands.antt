@@ -2,9 +2,9 @@
 use mathlib.Core.Bool.{Bool, _&&_}
 use mathlib.Core.List.{List, [], _∷_}
 use mathlib.Core.Path.{_≡_, ap, subst, sym, _∙_}
-use Prim.Native.Nat.{ℕ, suc, _+_, _*_, _/_, _≤_, _<_}
+use Prim.Native.Nat.{ℕ, suc, _+_, _*_, _/_, _<_}
 use native.Mathlib.Omega.{arith}
-use lib.ListN.{length, getD, take, drop}
+use lib.ListN.{length, getD, drop}
 use Rattle.std.proofs.shelf.Lists.{getD-take, getD-drop, length-take, length-drop}
 use Rattle.sheet.specs.Sheets.{Legal, sheetOf, gateCount, leftOf, rightOf, leftPlace, rightPlace, gateNode}
 use Rattle.signal.specs.Settled.{Ordered, Gated}

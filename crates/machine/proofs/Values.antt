@@ -5,10 +5,11 @@ use mathlib.Core.Logic.{⊎-elim}
 use mathlib.Core.Path.{_≡_, refl, sym, ap, _∙_}
 use Prim.Native.Nat.{ℕ, zero, suc, _+_, _-_, _/_, _%_, _≤_, _<_}
 use native.Mathlib.Omega.{arith}
-use lib.Dec.{eqb, leb}
+use lib.Dec.{eqb}
 use Rattle.std.proofs.shelf.Tests.{cond-true, cond-false, eq-eqb, ne-eqb, le-leb, lt-leb, cases-lt, cases-eq}
 use Rattle.sheet.specs.Sheets.{Sheet, Legal, sheetOf}
 use Rattle.signal.specs.Truth.{lit}
+use Rattle.machine.specs.Fits.{inputAt, latchAt, nodes, Settled, ValuesFit}
 use Rattle.machine.specs.Values.{fed, gateAt, after, values}
 
 -- a literal has its value from its node alone
@@ -22,24 +23,6 @@ pub record Ascends (s : Sheet) : Type 0 where
 
 pub legal-ascends : (l : List ℕ) → Legal l → Ascends (sheetOf l)
 legal-ascends l legal = record { lefts = legal .lefts; rights = legal .rights }
-
--- the node of an input, and of a latch
-abbrev pub inputAt : Sheet → ℕ → ℕ
-inputAt s i = 1 + i
-
-abbrev pub latchAt : Sheet → ℕ → ℕ
-latchAt s i = 1 + s .inputs + i
-
--- how many nodes there are
-abbrev pub nodes : Sheet → ℕ
-nodes s = gateAt s (s .gates)
-
--- node values that fit the gates, at latch bits c and input bits x
-pub record Settled (s : Sheet) (c x v : ℕ → Bool) : Type 0 where
-  pub constant : v 0 ≡ false
-  pub inputs : (i : ℕ) → i < s .inputs → v (inputAt s i) ≡ x i
-  pub latches : (i : ℕ) → i < s .latches → v (latchAt s i) ≡ c i
-  pub gates : (g : ℕ) → g < s .gates → v (gateAt s g) ≡ (lit v (s .left g) && lit v (s .right g))
 
 both-same : {a b c d : Bool} → a ≡ c → b ≡ d → (a && b) ≡ (c && d)
 both-same p q = cc
@@ -134,6 +117,9 @@ module _ (s : Sheet) (c x : ℕ → Bool) where
     -- and no others do
     pub only-settled : (v : ℕ → Bool) → Settled s c x v → (j : ℕ) → j < nodes s → v j ≡ values s c x j
     only-settled v ok j h = settled-after v ok (s .gates) (omega arith) j h
+
+pub values-fit : (s : Sheet) → Ascends s → ValuesFit s
+values-fit s up = record { fit = λ c x. settled s c x up; alone = λ c x. only-settled s c x up }
 
 -- values that fit the gates are those of the bits that they have at the latches and the inputs
 pub agree : (s : Sheet) → Ascends s → (v : ℕ → Bool) → v 0 ≡ false

@@ -1,5 +1,6 @@
 pub mod Bits
 pub mod Values
+pub mod Fits
 pub mod Runs
 pub mod Depth
 pub mod Faults

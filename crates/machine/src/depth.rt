@@ -14,7 +14,7 @@ use lists::counted;
 use sheet::fault::Fault;
 use sheet::write::is_legal;
 
-// A limit of the reverse depth: the number of states. Every sheet has a reverse depth, which the states within it count out.
+// How many states the machine has, which its reverse depth never exceeds. It has exactly one reverse depth.
 pub fn depth_limit(sheet: &[u32]) -> Result<u32, Fault>
     ensures is_the_number_of_states { λ r. ⌜ r ≡ cond (wellFormed (counted (now (sheet .entry)))) (Ok (2 ^ latchCount (counted (now (sheet .entry))))) (Err (refusal 21 0)) ⌝ }
     ensures a_reverse_depth_exists { λ _. ⌜ ((s : Sheet) → HasReverseDepth s) ⌝ }

@@ -9,6 +9,7 @@ ghost use Rattle.lists.specs.Counted.{counted, onCounted};
 ghost use Rattle.sheet.specs.Sheets.{Legal, sheetOf, inputCount, latchCount, nodeCount};
 ghost use Rattle.signal.specs.Circuit.{nodeOf};
 ghost use Rattle.signal.specs.Kinds.{bitOps};
+ghost use Rattle.machine.specs.Fits.{ValuesFit};
 ghost use Rattle.machine.specs.Room.{Small};
 ghost use Rattle.machine.specs.Simulate.{operands, nextSignals, stepSignals, simulated, MayBe, CoversStep, IsStep};
 use crate::refuse;
@@ -102,6 +103,7 @@ fn step_in<S: Signal>(sheet: &[u32], state: &mut [S], inputs: &[S], scratch: &mu
     literal_signal(nodes, literal_at(sheet, 3))
 }
 
+// The same, with an array of its own.
 fn step<S: NodeSignal>(sheet: &[u32], state: &mut [S], inputs: &[S]) -> S
     requires legal { ⌜ Legal (now sheet) ⌝ }
     requires latches { ⌜ length (now state) ≡ latchCount (now sheet) ⌝ }
@@ -113,10 +115,12 @@ fn step<S: NodeSignal>(sheet: &[u32], state: &mut [S], inputs: &[S]) -> S
 }
 
 // One step of the machine that `sheet` lays out: the signal of its bad literal, and in `state` the next state.
-// It refuses a list that is not legal, and lists that have not exactly a signal for each latch and each input.
+// It refuses a list that is not legal, a state with not exactly a signal for each latch, and inputs with not exactly one for
+// each input. A refusal leaves the state as it is.
 pub fn simulate<S: NodeSignal>(sheet: &[u32], state: &mut [S], inputs: &[S]) -> Result<S, Fault>
     ensures steps_by_the_gate_values { λ r. ⌜ (r, now (state .exit)) ≡ onCounted (simulated (S·Signal .ops) (counted (now (sheet .entry))) (counted (now (inputs .entry)))) (now (state .entry)) ⌝ }
     ensures covers_every_choice { λ r. ⌜ ((i : ℕ) (c x : ℕ → Bool) → i < S·Signal .lanes → MayBe (S·Signal .may) i (counted (now (state .entry))) c → MayBe (S·Signal .may) i (counted (now (inputs .entry))) x → made r (λ bad. CoversStep (S·Signal .may) i (sheetOf (counted (now (sheet .entry)))) c x bad (now (state .exit)))) ⌝ }
+    ensures those_values_alone_fit_the_gates { λ r. ⌜ made r (λ _. ValuesFit (sheetOf (counted (now (sheet .entry))))) ⌝ }
 {
     if !is_legal(sheet) {
         return Err(refuse(21, 0));

@@ -1,8 +1,8 @@
 use mathlib.Core.Bool.{false}
-use mathlib.Core.Path.{_≡_, ap, subst, sym, _∙_}
-use Prim.Native.Nat.{ℕ, _<_, _+_}
+use mathlib.Core.Path.{_≡_}
+use Prim.Native.Nat.{ℕ, _<_}
 use native.Mathlib.Omega.{arith}
-use lib.ListN.{length, getD, set}
+use lib.ListN.{length}
 use Rattle.std.proofs.shelf.Counted.{fill-by-all}
 use Rattle.std.proofs.shelf.Edits.{fill-by-more}
 use Rattle.sheet.specs.Sheets.{nextOf}
@@ -15,7 +15,7 @@ loop-i-again g c =
     let next : ℕ → g .S .Denot = λ k. nodeOf o (c .args .nodes .now) (nextOf (c .args .sheet .now) k) in
     let i = c .loop-i .i in
     let here : c .literal-signal .result ≡ next i =
-    c .literal-signal .ensures ∙ ap (nodeOf o (c .args .nodes .now)) (c .literal-at .ensures) in
+    rw (c .literal-signal .ensures, c .literal-at .ensures) in
     let within : i < length (c .loop-i .state) = omega arith in
     rw here (fill-by-more next (c .loop-i .state) i (o .known false) within (c .loop-i .inv))
 

@@ -7,6 +7,7 @@ use Rattle.lists.specs.Counted.{counted}
 use Rattle.sheet.specs.Sheets.{Legal, sheetOf, inputCount, latchCount}
 use Rattle.machine.specs.Simulate.{stepSignals, CoversStep}
 use Rattle.machine.proofs.Refusals.{not-legal, not-a-state, not-inputs, stepped-by, covers-lent}
+use Rattle.machine.proofs.Values.{legal-ascends, values-fit}
 use Rattle.machine.proofs.simulate.simulate.Needs as need
 
 pub returns-then-not-is-legal : need.returns-then-not-is-legal
@@ -16,6 +17,7 @@ returns-then-not-is-legal g c =
       steps-by-the-gate-values =
           rw (c .refuse .ensures) (not-legal (g .S·Signal .ops) (counted (c .args .sheet .now)) (c .args .inputs .now) (c .args .state .now) fails);
       covers-every-choice = λ i b x h latches inputs. tt;
+      those-values-alone-fit-the-gates = tt;
     }
 
 pub returns-then-state-sheet : need.returns-then-state-sheet
@@ -27,6 +29,7 @@ returns-then-state-sheet g c =
       steps-by-the-gate-values =
           rw (c .refuse-then-state-sheet .ensures) (not-a-state (g .S·Signal .ops) l (c .args .inputs .now) (c .args .state .now) legal fails);
       covers-every-choice = λ i b x h latches inputs. tt;
+      those-values-alone-fit-the-gates = tt;
     }
 
 pub returns-then-inputs-sheet : need.returns-then-inputs-sheet
@@ -39,6 +42,7 @@ returns-then-inputs-sheet g c =
       steps-by-the-gate-values =
           rw (c .refuse-then-inputs-sheet .ensures) (not-inputs (g .S·Signal .ops) l (c .args .inputs .now) (c .args .state .now) legal is fails);
       covers-every-choice = λ i b x h latches inputs. tt;
+      those-values-alone-fit-the-gates = tt;
     }
 
 pub returns : need.returns
@@ -58,4 +62,5 @@ returns g c =
       covers-every-choice = λ i b x h at-latches at-inputs.
           subst (λ p. CoversStep may i (sheetOf l) b x (p .0) (p .1)) (sym step)
           (covers-lent may i (g .S·Signal·met .sound i h) l legal inputs state many wide b x at-latches at-inputs);
+      those-values-alone-fit-the-gates = values-fit (sheetOf l) (legal-ascends l legal);
     }
