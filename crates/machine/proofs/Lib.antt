@@ -1,0 +1,9 @@
+pub mod Count
+pub mod Steps
+pub mod Depths
+pub mod Values
+pub mod Operands
+pub mod Covered
+pub mod Plain
+mod Feeding
+mod Refusals
