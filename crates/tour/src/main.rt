@@ -7,7 +7,9 @@ use std::fs;
 use std::io;
 
 const SHEET_PLACES: usize = 452;
+
 const TEXT_BYTES: usize = 4096;
+
 const MOST_LATCHES: usize = 24;
 
 // What the driver does at each step: announces a needle number, has a value to send, and the value is a thread weight. This
@@ -72,7 +74,11 @@ fn walk(rt: &LibcRuntime, name: &str) -> Result<(), AnyError> {
     if places > SHEET_PLACES || list[1] as usize > MOST_LATCHES {
         return Err("the sheet is too large".into());
     }
-    println!(rt, "{name}: {} inputs, {} latches, {} gates", list[0], list[1], list[2])?;
+    println!(
+        rt,
+        "{name}: {} inputs, {} latches, {} gates",
+        list[0], list[1], list[2]
+    )?;
     print!(rt, "  list")?;
     show_numbers(rt, &list[0..places])?;
     write_back(rt, &list, &text)?;
