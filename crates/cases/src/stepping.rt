@@ -1,6 +1,5 @@
 // Machines that are stepped, and the values of clauses and gates.
 use machine::depth::depth_limit;
-use machine::simulate::TriNodeSignal;
 use machine::simulate::simulate;
 use machine::simulate::simulate_bits;
 use signal::clauses::falsifies_clause;

@@ -4,5 +4,4 @@ pub mod Fits
 pub mod Runs
 pub mod Depth
 pub mod Faults
-pub mod Room
 pub mod Simulate

@@ -10,7 +10,6 @@ ghost use Rattle.sheet.specs.Sheets.{Legal, sheetOf, inputCount, latchCount, no
 ghost use Rattle.signal.specs.Circuit.{nodeOf};
 ghost use Rattle.signal.specs.Kinds.{bitOps};
 ghost use Rattle.machine.specs.Fits.{ValuesFit};
-ghost use Rattle.machine.specs.Room.{Small};
 ghost use Rattle.machine.specs.Simulate.{operands, nextSignals, stepSignals, simulated, MayBe, CoversStep, IsStep};
 use crate::refuse;
 use lists::counted;
@@ -20,17 +19,6 @@ use sheet::write::is_legal;
 use signal::Signal;
 use signal::gate_values;
 use signal::kinds::BoolSignal;
-use signal::kinds::Tri;
-use signal::kinds::TriSignal;
-
-// A kind of signal of which a machine's nodes find room in memory.
-pub trait NodeSignal: Signal {
-    law small: { Small Self·row };
-}
-
-pub impl NodeSignal for bool as BoolNodeSignal {}
-
-pub impl NodeSignal for Tri as TriNodeSignal {}
 
 // A legal sheet has no more nodes: the constant, 24 inputs, 24 latches and 200 gates.
 const MOST_NODES: usize = 249;
@@ -104,11 +92,11 @@ fn step_in<S: Signal>(sheet: &[u32], state: &mut [S], inputs: &[S], scratch: &mu
 }
 
 // The same, with an array of its own.
-fn step<S: NodeSignal>(sheet: &[u32], state: &mut [S], inputs: &[S]) -> S
+fn step<S: Signal>(sheet: &[u32], state: &mut [S], inputs: &[S]) -> S
     requires legal { ⌜ Legal (now sheet) ⌝ }
     requires latches { ⌜ length (now state) ≡ latchCount (now sheet) ⌝ }
     requires inputs { ⌜ length (now inputs) ≡ inputCount (now sheet) ⌝ }
-    ensures { λ r. ⌜ (r, now (state .exit)) ≡ stepSignals (S·Signal .ops) (now (sheet .entry)) (now (inputs .entry)) (now (state .entry)) ⌝ }
+    ensures { λ r. ⌜ (r, now (state .exit)) ≡ stepSignals ops (now (sheet .entry)) (now (inputs .entry)) (now (state .entry)) ⌝ }
 {
     let mut scratch = [S::bit(false); MOST_NODES];
     step_in(sheet, state, inputs, &mut scratch)
@@ -117,9 +105,9 @@ fn step<S: NodeSignal>(sheet: &[u32], state: &mut [S], inputs: &[S]) -> S
 // One step of the machine that `sheet` lays out: the signal of its bad literal, and in `state` the next state.
 // It refuses a list that is not legal, a state with not exactly a signal for each latch, and inputs with not exactly one for
 // each input. A refusal leaves the state as it is.
-pub fn simulate<S: NodeSignal>(sheet: &[u32], state: &mut [S], inputs: &[S]) -> Result<S, Fault>
-    ensures steps_by_the_gate_values { λ r. ⌜ (r, now (state .exit)) ≡ onCounted (simulated (S·Signal .ops) (counted (now (sheet .entry))) (counted (now (inputs .entry)))) (now (state .entry)) ⌝ }
-    ensures covers_every_choice { λ r. ⌜ ((i : ℕ) (c x : ℕ → Bool) → i < S·Signal .lanes → MayBe (S·Signal .may) i (counted (now (state .entry))) c → MayBe (S·Signal .may) i (counted (now (inputs .entry))) x → made r (λ bad. CoversStep (S·Signal .may) i (sheetOf (counted (now (sheet .entry)))) c x bad (now (state .exit)))) ⌝ }
+pub fn simulate<S: Signal>(sheet: &[u32], state: &mut [S], inputs: &[S]) -> Result<S, Fault>
+    ensures steps_by_the_gate_values { λ r. ⌜ (r, now (state .exit)) ≡ onCounted (simulated ops (counted (now (sheet .entry))) (counted (now (inputs .entry)))) (now (state .entry)) ⌝ }
+    ensures covers_every_choice { λ r. ⌜ ((i : ℕ) (c x : ℕ → Bool) → i < lanes → MayBe may i (counted (now (state .entry))) c → MayBe may i (counted (now (inputs .entry))) x → made r (λ bad. CoversStep may i (sheetOf (counted (now (sheet .entry)))) c x bad (now (state .exit)))) ⌝ }
     ensures those_values_alone_fit_the_gates { λ r. ⌜ made r (λ _. ValuesFit (sheetOf (counted (now (sheet .entry))))) ⌝ }
 {
     if !is_legal(sheet) {

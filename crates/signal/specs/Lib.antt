@@ -6,3 +6,4 @@ pub mod Sound
 pub mod Covers
 pub mod Settled
 pub mod Kinds
+pub mod Room

@@ -9,6 +9,7 @@ ghost use Rattle.lists.specs.Counted.{counted, uncounted};
 ghost use Rattle.signal.specs.Circuit.{Ops, disjunction, phasedOf, literalOf, clauseOf, nodeOf, gatesOf};
 ghost use Rattle.signal.specs.Covers.{Agrees, Covers, CoversTo};
 ghost use Rattle.signal.specs.Kinds.{bitOps};
+ghost use Rattle.signal.specs.Room.{Small};
 ghost use Rattle.signal.specs.Settled.{Ordered, Settled, Gated};
 ghost use Rattle.signal.specs.Sound.{Sound};
 ghost use Rattle.signal.specs.Truth.{lit, holds};
@@ -33,6 +34,9 @@ pub trait Signal: Copy {
 
     // In each lane an operation gives exactly the bits that it should.
     law sound: { (i : ℕ) → i < lanes → Sound ops (λ x. may x i) };
+
+    // So that an array of a few hundred values finds room in memory.
+    law small: { Small Self·row };
 
     fn bit(b: bool) -> Self
         ensures { λ r. ⌜ r ≡ ops .known b ⌝ };
