@@ -10,7 +10,7 @@ use lib.ListN.{length}
 use Rattle.std.proofs.shelf.Tests.{both-ways, cases-bool, cases-lt, and-parts, and-from, not-true, not-from-false, or-cases, or-left, or-right}
 use Rattle.sheet.specs.Sheets.{Sheet}
 use Rattle.machine.specs.Runs.{State, Inputs, Frame, valueIn, Follows, BadIn, BadPath, Reaches}
-use Rattle.machine.specs.Depth.{Within, ReverseDepth, HasReverseDepth}
+use Rattle.machine.specs.Depth.{Within, ReverseDepth, Fewest, HasReverseDepth}
 use Rattle.machine.proofs.Count.{Region, count, count-le, count-grows, some, found, is-some}
 use Rattle.machine.proofs.Steps.{stepped, stepped-follows, only-stepped}
 
@@ -143,6 +143,28 @@ module _ (s : Sheet) where
         | inr e ↦ settled j low before e
       ]
 
+  -- a state that is new at the last but one j needs as many steps as the depth is
+  pub attained-by : (d : ℕ) → ReverseDepth s d → (d ≡ 0) ⊎ ((c : State s) × Fewest s c d)
+  attained-by zero h = inl refl
+  attained-by (suc d) h =
+      elim (cases-bool (some (s .latches) (new d))) [
+        | inl more ↦ inr (newest (found (s .latches) (new d) more))
+        | inr e ↦ absurd (omega (arith, h .least d (stays-within d (stays d e))))
+      ]
+    where
+      newest : ((c : State s) × (new d c ≡ true)) → (c : State s) × Fewest s c (suc d)
+      newest t =
+          let c = t .0 in
+          let p = and-parts (back (suc d) c) (not (back d c)) (t .1) in
+          let far : (q : ℕ) → Reaches s c q → suc d ≤ q =
+          λ q r. elim (cases-lt d q) [
+            | inl lt ↦ lt
+            | inr le ↦ absurd (both-ways (back d c) (not-true (back d c) (p .1)) (back-has c q d le r))
+          ] in
+          let near = back-reaches (suc d) c (p .0) in
+          let same : near .0 ≡ suc d = omega (arith, near .1, far (near .0) (near .2)) in
+          (c, record { reaches = subst (λ m. Reaches s c m) same (near .2); no-fewer = far })
+
 pub only-depth : (s : Sheet) (q r : ℕ) → ReverseDepth s q → ReverseDepth s r → q ≡ r
 only-depth s q r a b = omega (arith, a .least r (b .within), b .least q (a .within))
 
@@ -154,6 +176,7 @@ has-reverse-depth s =
       is-depth = d .2;
       only = λ r h. only-depth s r (d .0) h (d .2);
       bounded = d .1;
+      attained = attained-by s (d .0) (d .2);
       none = λ unreached. omega (arith, d .2 .least 0 (λ c m h. absurd (unreached c m h)));
     }
 

@@ -8,3 +8,4 @@ pub mod Covered
 pub mod Plain
 mod Feeding
 mod Refusals
+pub mod Reaching

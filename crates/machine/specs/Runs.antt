@@ -50,7 +50,15 @@ pub record BadPath (s : Sheet) (f : Frame s) (fs : List (Frame s)) : Type 0 wher
   pub path : Path s f fs
   pub ends-bad : BadIn s (lastFrame f fs)
 
--- a run is a path from a start state; a bad run of m steps has m frames after its first
+-- a run of m steps is a path from a start state, with m frames after its first
+pub record Run (s : Sheet) (m : ℕ) : Type 0 where
+  pub first : Frame s
+  pub later : List (Frame s)
+  pub starts : Starts s (first .state)
+  pub path : Path s first later
+  pub steps : length later ≡ m
+
+-- it is bad if `bad` is 1 in its last frame
 pub record BadRun (s : Sheet) (m : ℕ) : Type 0 where
   pub first : Frame s
   pub later : List (Frame s)

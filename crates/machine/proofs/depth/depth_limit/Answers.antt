@@ -10,6 +10,7 @@ use Rattle.lists.specs.Counted.{counted}
 use Rattle.sheet.specs.Sheets.{Legal, sheetOf, latchCount}
 use Rattle.sheet.proofs.Legality.{legal-wellFormed}
 use Rattle.machine.proofs.Depths.{has-reverse-depth, depth-low}
+use Rattle.machine.proofs.Reaching.{bad-runs}
 use Rattle.machine.proofs.depth.depth_limit.Needs as need
 
 pub returns-then-not-is-legal : need.returns-then-not-is-legal
@@ -17,7 +18,8 @@ returns-then-not-is-legal c =
     record {
       is-the-number-of-states =
           rw (c .refuse .ensures) (sym (cond-false _ _ _ (sym (c .is-legal .ensures .is-the-test) ∙ c .if-not-is-legal .taken)));
-      a-reverse-depth-exists = has-reverse-depth;
+      each-sheet-has-exactly-one-depth = has-reverse-depth;
+      bad-runs-need-no-more-steps = bad-runs;
       limits-the-reverse-depth = tt;
     }
 
@@ -35,6 +37,7 @@ returns c =
     ap (λ k. 1 * 2 ^ latchCount k % 2 ^ 32) (c .counted .ensures .value) ∙ shifted (latchCount l) (legal .few-latches) in
     record {
       is-the-number-of-states = ap (λ n. Ok n) power ∙ sym (cond-true _ _ _ (legal-wellFormed l legal));
-      a-reverse-depth-exists = has-reverse-depth;
+      each-sheet-has-exactly-one-depth = has-reverse-depth;
+      bad-runs-need-no-more-steps = bad-runs;
       limits-the-reverse-depth = λ depth is. rw power (depth-low (sheetOf l) depth is);
     }
