@@ -34,7 +34,8 @@ impl Literal {
 
     // The other literal of the node.
     pub fn opposite(self) -> Literal
-        ensures { λ r. ⌜ r .0 ≡ cond (eqb (self .0 % 2) 1) (self .0 - 1) (self .0 + 1) ⌝ }
+        ensures is_the_other { λ r. ⌜ r .0 ≡ cond (eqb (self .0 % 2) 1) (self .0 - 1) (self .0 + 1) ⌝ }
+        ensures same_node_other_sign { λ r. ⌜ r .0 / 2 ≡ self .0 / 2 ⌝ ∗ ⌜ r .0 % 2 ≡ 1 - self .0 % 2 ⌝ }
     {
         if self.is_negated() {
             Literal(self.0 - 1)

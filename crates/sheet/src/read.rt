@@ -7,7 +7,7 @@ ghost use lib.ListN.{length, take, replicate};
 ghost use Rattle.std.specs.Vec.{made};
 ghost use Rattle.sheet.specs.Faults.{mapOk};
 ghost use Rattle.sheet.specs.Parts.{upTo, spelled, spaced, former, further, latter, shape, seen};
-ghost use Rattle.sheet.specs.Parse.{refusal, lineOf, triplesIf, partsIf, partIf, numberOf, readContents, letter, inRange, ordered, readPair, readPairs, readBad, parse, readText};
+ghost use Rattle.sheet.specs.Parse.{refusal, lineOf, triplesIf, partsIf, partIf, numberOf, readContents, letter, readPair, readPairs, readBad, parse, readText};
 ghost use Rattle.sheet.specs.FirstLine.{Judged};
 ghost use Rattle.sheet.specs.Trip.{Accepts-legal-sheets, WritesBack};
 ghost use Rattle.sheet.specs.Seen.{lineSeen, triplesSeen, partsSeen, partSeen, contentsSeen, pairSeen, restSeen, badSeen, wholeSeen};
@@ -15,7 +15,8 @@ use crate::fault::Fault;
 use crate::fault::Layer;
 use crate::line::Due;
 use crate::line::Line;
-use crate::literal::Literal;
+use crate::line::in_order;
+use crate::line::in_range;
 use lists::counted_len;
 
 // How many inputs, latches and gates there are.
@@ -50,7 +51,8 @@ struct Pair<'a> {
     rest: &'a [u8],
 }
 
-fn refuse(number: u32, place: u32) -> Fault
+// A refusal of a sheet.
+pub(crate) fn refuse(number: u32, place: u32) -> Fault
     ensures { λ r. ⌜ r ≡ refusal number place ⌝ }
 {
     Fault {
@@ -223,30 +225,6 @@ fn read_contents(text: &[u8]) -> Result<(Counts, &[u8]), Fault>
     Ok((counts, rest))
 }
 
-// Whether the numbers of a line of two are within their limits.
-fn in_range(rule: Rule, first: u32, second: u32) -> bool
-    ensures { λ r. ⌜ r ≡ inRange (rule .due) (rule .most) first second ⌝ }
-{
-    match rule.due {
-        Due::OfLatch => first <= rule.most && second <= 2,
-        Due::OfGate => first <= rule.most && second <= rule.most,
-    }
-}
-
-// Whether a gate stands above its left operand, and that above its right one.
-fn in_order(rule: Rule, first: u32, second: u32) -> bool
-    ensures { λ r. ⌜ r ≡ ordered (rule .due) (rule .own) first second ⌝ }
-{
-    match rule.due {
-        Due::OfLatch => true,
-        Due::OfGate => {
-            let left = Literal::from_number(first).node();
-            let right = Literal::from_number(second).node();
-            left < rule.own && right < left
-        }
-    }
-}
-
 // A line of two numbers, as `rule` says, and what follows it.
 fn read_pair(text: &[u8], rule: Rule) -> Result<Pair<'_>, Fault>
     ensures { λ r. ⌜ mapOk pairSeen r ≡ readPair (rule .due) (rule .most) (rule .own) (rule .place) (now (text .entry)) ⌝ }
@@ -257,10 +235,10 @@ fn read_pair(text: &[u8], rule: Rule) -> Result<Pair<'_>, Fault>
     };
     let first = number_in(first, rule.place)?;
     let second = number_in(second, rule.place)?;
-    if !in_range(rule, first, second) {
+    if !in_range(rule.due, rule.most, first, second) {
         return Err(refuse(15, rule.place));
     }
-    if !in_order(rule, first, second) {
+    if !in_order(rule.due, rule.own, first, second) {
         return Err(refuse(16, rule.place));
     }
     Ok(Pair {

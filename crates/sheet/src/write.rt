@@ -13,35 +13,20 @@ ghost use Rattle.sheet.specs.Parse.{refusal, inRange, ordered};
 ghost use Rattle.sheet.specs.Render.{digits, lineText, pairsText, textOf, pairsFit, allZero, wellFormed, placed, writeText};
 ghost use Rattle.sheet.specs.Trip.{Iff, ReadsTo, ReadsBack};
 use crate::fault::Fault;
-use crate::fault::Layer;
 use crate::line::Due;
-use crate::literal::Literal;
+use crate::line::in_order;
+use crate::line::in_range;
+use crate::read::refuse;
 
-// The longest text: a contents line of 14 bytes, 224 lines of 10, and the bad line of 6.
+// No text is longer: a contents line of at most 14 bytes, 224 lines of at most 10, and the bad line of at most 6, each
+// number counted as three digits.
 const MOST_BYTES: usize = 2260;
-
-fn refuse(number: u32) -> Fault
-    ensures { λ r. ⌜ r ≡ refusal number 0 ⌝ }
-{
-    Fault {
-        layer: Layer::Sheet,
-        number,
-        place: 0,
-    }
-}
 
 // Whether a line of two numbers may have these; `own` is the node of a gate.
 fn pair_fits(due: Due, most: u32, own: u32, first: u32, second: u32) -> bool
     ensures { λ r. ⌜ r ≡ (inRange due most first second && ordered due own first second) ⌝ }
 {
-    match due {
-        Due::OfLatch => first <= most && second <= 2,
-        Due::OfGate => {
-            let left = Literal::from_number(first).node();
-            let right = Literal::from_number(second).node();
-            first <= most && second <= most && left < own && right < left
-        }
-    }
+    in_range(due, most, first, second) && in_order(due, own, first, second)
 }
 
 // Whether each of `count` pairs, which lie in `list` from `from` on, may stand there; `own` is the node of the first gate.
@@ -194,7 +179,7 @@ fn place(bytes: &[u8], text: &mut [u8]) -> Result<usize, Fault>
 {
     let count = bytes.len();
     if text.len() < count {
-        return Err(refuse(18));
+        return Err(refuse(18, 0));
     }
     text[0..count].copy_from_slice(bytes);
     text[count..].fill(0);
@@ -211,7 +196,7 @@ pub fn write(list: &[u32], text: &mut [u8]) -> Result<usize, Fault>
 {
     let list = lists::counted(list);
     if !is_well_formed(list) {
-        return Err(refuse(21));
+        return Err(refuse(21, 0));
     }
     let mut bytes = [0; MOST_BYTES];
     let count = put_all(&mut bytes, list);

@@ -3,3 +3,4 @@ pub mod Steps
 pub mod Fixed
 pub mod Cut
 pub mod Usual
+pub mod Exactly

@@ -7,3 +7,4 @@ pub mod Covers
 pub mod Settled
 pub mod Kinds
 pub mod Room
+pub mod Exact

@@ -7,7 +7,6 @@ ghost use Rattle.std.specs.shelf.Lists.{All};
 ghost use Rattle.lists.specs.Counted.{counted};
 ghost use Rattle.signal.specs.Circuit.{literalOf, clauseOf};
 ghost use Rattle.signal.specs.Kinds.{triOps, mayTri};
-ghost use Rattle.signal.specs.Meaning.{Sets-are};
 ghost use Rattle.signal.specs.Truth.{holds, Satisfied, bitsOf, Completes, False};
 ghost use Rattle.signal.specs.declared.kinds.Tri.the-variants.{Zero};
 use crate::clause_value;
@@ -32,12 +31,4 @@ pub fn falsifies_clause(numbers: &[u32], literals: &[u32]) -> bool
     ensures when_no_completion_satisfies { λ r. ⌜ Decides r ((α : ℕ → Bool) → Completes (counted (now (numbers .entry))) α → holds α (counted (now (literals .entry))) ≡ false) ⌝ }
 {
     clause_value::<Tri>(numbers, literals) == Tri::Zero
-}
-
-// The words that the law of `Signal` is stated in mean what they say.
-pub fn sets_mean_what_they_say() -> bool
-    ensures says_so { λ r. ⌜ r ≡ true ⌝ }
-    ensures each_set_is_as_named { λ _. ⌜ Sets-are ⌝ }
-{
-    true
 }

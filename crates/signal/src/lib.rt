@@ -8,7 +8,9 @@ ghost use lib.ListN.{length, getD};
 ghost use Rattle.lists.specs.Counted.{counted, uncounted};
 ghost use Rattle.signal.specs.Circuit.{Ops, disjunction, phasedOf, literalOf, clauseOf, nodeOf, gatesOf};
 ghost use Rattle.signal.specs.Covers.{Agrees, Covers, CoversTo};
+ghost use Rattle.signal.specs.Exact.{literalSet, clauseSet};
 ghost use Rattle.signal.specs.Kinds.{bitOps};
+ghost use Rattle.signal.specs.Meaning.{Sets-are};
 ghost use Rattle.signal.specs.Room.{Small};
 ghost use Rattle.signal.specs.Settled.{Ordered, Settled, Gated};
 ghost use Rattle.signal.specs.Sound.{Sound};
@@ -120,6 +122,7 @@ fn run_gates<S: Signal>(pairs: &[u32], first: usize, values: &mut [S])
 // A variable that has no number counts as 0.
 pub fn literal_value<S: Signal>(numbers: &[u32], literal: u32) -> S
     ensures is_the_literal { λ r. ⌜ r ≡ literalOf ops (counted (now (numbers .entry))) literal ⌝ }
+    ensures may_be_exactly_its_bits { λ r. ⌜ ((i : ℕ) (b : Bool) → i < lanes → may r i b ≡ literalSet (λ k. may (ops .reading (getD (counted (now (numbers .entry))) k 0)) i) literal b) ⌝ }
     ensures covers_each_assignment { λ r. ⌜ ((i : ℕ) (α : ℕ → Bool) → i < lanes → Agrees ops may i (counted (now (numbers .entry))) α → may r i (lit α literal) ≡ true) ⌝ }
 {
     literal_of(counted(numbers), literal)
@@ -128,6 +131,8 @@ pub fn literal_value<S: Signal>(numbers: &[u32], literal: u32) -> S
 // The value of a clause: the OR of its literals.
 pub fn clause_value<S: Signal>(numbers: &[u32], literals: &[u32]) -> S
     ensures is_the_clause { λ r. ⌜ r ≡ clauseOf ops (counted (now (numbers .entry))) (counted (now (literals .entry))) ⌝ }
+    ensures may_be_exactly_the_ors { λ r. ⌜ ((i : ℕ) (b : Bool) → i < lanes → may r i b ≡ clauseSet (λ k. may (ops .reading (getD (counted (now (numbers .entry))) k 0)) i) (counted (now (literals .entry))) b) ⌝ }
+    ensures each_set_is_as_named { λ _. ⌜ Sets-are ⌝ }
     ensures covers_each_assignment { λ r. ⌜ ((i : ℕ) (α : ℕ → Bool) → i < lanes → Agrees ops may i (counted (now (numbers .entry))) α → may r i (holds α (counted (now (literals .entry)))) ≡ true) ⌝ }
 {
     clause_of(counted(numbers), counted(literals))

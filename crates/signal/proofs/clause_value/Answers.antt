@@ -4,7 +4,9 @@ use Prim.Native.Nat.{ℕ}
 use Rattle.signal.specs.Circuit.{clauseOf}
 use Rattle.signal.specs.Truth.{holds}
 use Rattle.lists.specs.Counted.{counted}
+use borrow.Author.Needs.{needs}
 use Rattle.signal.proofs.Cover.{may-clause}
+use Rattle.signal.proofs.Exactly.{clause-set}
 use Rattle.signal.proofs.clause_value.Needs as need
 
 pub returns : need.returns
@@ -15,6 +17,10 @@ returns g c =
     ∙ ap (λ (ls : List ℕ). clauseOf (g .S·Signal .ops) (counted (c .args .numbers .now)) ls) (c .counted-2 .ensures .value) in
     record {
       is-the-clause = is;
+      may-be-exactly-the-ors = λ i b h.
+          ap (λ x. g .S·Signal .may x i b) is
+          ∙ clause-set (g .S·Signal .may) i (g .S·Signal·met .sound i h) (counted (c .args .numbers .now)) (counted (c .args .literals .now)) b;
+      each-set-is-as-named = search needs;
       covers-each-assignment = λ i α h agrees.
           ap (λ x. g .S·Signal .may x i (holds α (counted (c .args .literals .now)))) is
           ∙ may-clause (g .S·Signal .may) i (g .S·Signal·met .sound i h) (counted (c .args .numbers .now)) α (counted (c .args .literals .now)) agrees;
