@@ -5,10 +5,12 @@ ghost use mathlib.Core.List.{_∷_, _++_};
 ghost use Prim.Native.Nat.{_+_, _-_, _*_, _^_, _<_, _≤_};
 ghost use lib.ListN.{length, take, replicate};
 ghost use Rattle.std.specs.Vec.{made};
+ghost use Rattle.lists.specs.Counted.{counted};
 ghost use Rattle.sheet.specs.Faults.{mapOk};
 ghost use Rattle.sheet.specs.Parts.{upTo, spelled, spaced, former, further, latter, shape, seen};
 ghost use Rattle.sheet.specs.Parse.{refusal, lineOf, triplesIf, partsIf, partIf, numberOf, readContents, letter, readPair, readPairs, readBad, parse, readText};
 ghost use Rattle.sheet.specs.FirstLine.{Judged};
+ghost use Rattle.sheet.specs.Sheets.{Legal};
 ghost use Rattle.sheet.specs.Trip.{Accepts-legal-sheets, WritesBack};
 ghost use Rattle.sheet.specs.Seen.{lineSeen, triplesSeen, partsSeen, partSeen, contentsSeen, pairSeen, restSeen, badSeen, wholeSeen};
 use crate::fault::Fault;
@@ -345,6 +347,7 @@ pub fn read(text: &[u8], list: &mut [u32]) -> Result<usize, Fault>
     ensures reads_exactly_the_format { λ r. ⌜ (r, now (list .exit)) ≡ readText (now (text .entry)) (now (list .entry)) ⌝ }
     ensures names_the_first_wrong_line { λ r. ⌜ Judged (now (text .entry)) r ⌝ }
     ensures accepts_legal_sheets { λ _. ⌜ Accepts-legal-sheets ⌝ }
+    ensures leaves_a_legal_list { λ r. ⌜ made r (λ n. Legal (counted (now (list .exit))) × (n ≤ length (now (list .exit)))) ⌝ }
     ensures is_written_back { λ r. ⌜ made r (λ _. WritesBack (now (text .entry)) (now (list .exit))) ⌝ }
 {
     let mut pairs = [0; 448];

@@ -4,8 +4,9 @@ use native.Mathlib.Omega.{arith}
 use borrow.Author.Needs.{needs}
 use Rattle.std.proofs.shelf.Results.{err-from-errBy}
 use Rattle.sheet.proofs.ReadStored.{read-refused, read-short, read-stored}
+use Rattle.sheet.proofs.Legality.{wellFormed-legal}
 use Rattle.sheet.proofs.ReadFirst.{judged}
-use Rattle.sheet.proofs.Trips.{accepts, read-again}
+use Rattle.sheet.proofs.Trips.{accepts, read-again, read-formed}
 use Rattle.sheet.proofs.read.read.Needs as need
 
 pub returns-in-Break-head : need.returns-in-Break-head
@@ -16,6 +17,7 @@ returns-in-Break-head c =
       reads-exactly-the-format = rw (p .1, p .2) whole;
       names-the-first-wrong-line = rw (p .1, p .2) (judged (c .args .text .now) (c .args .list .now) (c .args .list .now) _ whole);
       accepts-legal-sheets = accepts;
+      leaves-a-legal-list = rw (p .1) tt;
       is-written-back = rw (p .1) tt;
     }
 
@@ -27,6 +29,7 @@ returns-then-places-count c =
       reads-exactly-the-format = rw (c .refuse .ensures) whole;
       names-the-first-wrong-line = rw (c .refuse .ensures) (judged (c .args .text .now) (c .args .list .now) (c .args .list .now) _ whole);
       accepts-legal-sheets = accepts;
+      leaves-a-legal-list = tt;
       is-written-back = tt;
     }
 
@@ -38,5 +41,7 @@ returns c =
       reads-exactly-the-format = whole;
       names-the-first-wrong-line = judged (c .args .text .now) (c .args .list .now) _ _ whole;
       accepts-legal-sheets = accepts;
+      leaves-a-legal-list =
+          (wellFormed-legal _ (read-formed (c .args .text .now) (c .args .list .now) _ _ whole .formed), omega (arith, c .counted-len-places .ensures));
       is-written-back = read-again (c .args .text .now) (c .args .list .now) _ _ whole;
     }
