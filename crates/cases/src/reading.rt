@@ -1,4 +1,6 @@
 // Sheets that are read, written and refused.
+use sheet::fault::Layer;
+use sheet::fault::LayerPartialEq;
 use sheet::read::read;
 use sheet::write::is_legal;
 use sheet::write::write;
@@ -245,34 +247,37 @@ const REFUSED: [Row; 46] = [
     },
 ];
 
-// Whether the text is refused with this number and place, and the list stays as it was.
-fn is_refused(text: &[u8], number: u32, place: u32) -> bool {
+// The number and the place that reading refuses the text with, of its own layer; zeros if it does not, or writes to the list.
+fn refusal_of(text: &[u8]) -> (u32, u32) {
     let mut list = [7; 452];
     match read(text, &mut list) {
-        Ok(_) => false,
-        Err(fault) => fault.number == number && fault.place == place && list == [7; 452],
+        Err(fault) if fault.layer == Layer::Sheet && list == [7; 452] => (
+            fault.number,
+            fault.place,
+        ),
+        _ => (0, 0),
     }
 }
 
 #[test]
 fn smallest_sheet() -> Result<(), Fail> {
     let mut list = [7; 8];
-    check(read(b"c 0 1 0\nl 0 0\nb 2\n", &mut list).is_ok())?;
+    check_eq(read(b"c 0 1 0\nl 0 0\nb 2\n", &mut list).ok(), Some(6))?;
     check_eq(list, [0, 1, 0, 2, 0, 0, 0, 0])
 }
 
 #[test]
 fn refused_texts() -> Result<(), Fail> {
     for row in &REFUSED {
-        check(is_refused(row.text, row.number, row.place))?;
+        check_eq(refusal_of(row.text), (row.number, row.place))?;
     }
     Ok(())
 }
 
 #[test]
 fn at_the_limit_of_bytes() -> Result<(), Fail> {
-    check(is_refused(&[b'c'; 4096], 12, 1))?;
-    check(is_refused(&[b'c'; 4097], 11, 0))
+    check_eq(refusal_of(&[b'c'; 4096]), (12, 1))?;
+    check_eq(refusal_of(&[b'c'; 4097]), (11, 0))
 }
 
 // The largest sheet: 24 inputs, 24 latches, 200 gates, literals up to 497, every start.
@@ -303,15 +308,15 @@ fn largest_sheet() -> Result<(), Fail> {
     check_eq(len, 2205)?;
     check(text[2204] == b'\n' && text[2205] == 0)?;
     let mut back = [7; 452];
-    check(read(&text[0..2205], &mut back).is_ok())?;
+    check_eq(read(&text[0..2205], &mut back).ok(), Some(452))?;
     check(back == list)
 }
 
-// The number that writing refuses the list with; 0 if it writes it.
-fn number_of(list: &[u32], text: &mut [u8]) -> u32 {
+// The number and the place that writing refuses the list with, of its own layer; zeros if it writes it.
+fn refusal_of_list(list: &[u32], text: &mut [u8]) -> (u32, u32) {
     match write(list, text) {
-        Ok(_) => 0,
-        Err(fault) => fault.number,
+        Err(fault) if fault.layer == Layer::Sheet => (fault.number, fault.place),
+        _ => (0, 0),
     }
 }
 
@@ -321,31 +326,43 @@ fn room_for_a_sheet() -> Result<(), Fail> {
     let mut short = [7; 5];
     match read(text, &mut short) {
         Ok(_) => return Err(Fail::new("read")),
-        Err(fault) => check_eq(fault.number, 18)?,
+        Err(fault) => check_eq((fault.number, fault.place), (18, 0))?,
     }
     check_eq(short, [7; 5])?;
     let mut bytes = [9; 17];
-    check_eq(number_of(&[0, 1, 0, 2, 0, 0], &mut bytes), 18)?;
+    check_eq(refusal_of_list(&[0, 1, 0, 2, 0, 0], &mut bytes), (18, 0))?;
     check_eq(bytes, [9; 17])?;
     let mut bytes = [9; 20];
-    check_eq(number_of(&[0, 1, 0, 2, 0, 0, 0], &mut bytes), 0)?;
+    check_eq(refusal_of_list(&[0, 1, 0, 2, 0, 0, 0], &mut bytes), (0, 0))?;
     check_eq(bytes, *b"c 0 1 0\nl 0 0\nb 2\n\0\0")
 }
 
 #[test]
 fn lists_that_no_text_gives() -> Result<(), Fail> {
     let mut bytes = [9; 64];
-    check_eq(number_of(&[], &mut bytes), 21)?;
-    check_eq(number_of(&[0, 1, 0, 2, 0], &mut bytes), 21)?;
-    check_eq(number_of(&[25, 1, 0, 2, 0, 0], &mut bytes), 21)?;
-    check_eq(number_of(&[0, 0, 0, 0], &mut bytes), 21)?;
-    check_eq(number_of(&[0, 1, 0, 4, 0, 0], &mut bytes), 21)?;
-    check_eq(number_of(&[0, 1, 0, 2, 4, 0], &mut bytes), 21)?;
-    check_eq(number_of(&[0, 1, 0, 2, 0, 3], &mut bytes), 21)?;
-    check_eq(number_of(&[1, 1, 1, 2, 0, 0, 2, 4], &mut bytes), 21)?;
-    check_eq(number_of(&[1, 1, 1, 2, 0, 0, 6, 2], &mut bytes), 21)?;
-    check_eq(number_of(&[0, 1, 0, 2, 0, 0, 0, 1], &mut bytes), 21)?;
-    check_eq(number_of(&[u32::MAX, u32::MAX, u32::MAX], &mut bytes), 21)?;
+    check_eq(refusal_of_list(&[], &mut bytes), (21, 0))?;
+    check_eq(refusal_of_list(&[0, 1, 0, 2, 0], &mut bytes), (21, 0))?;
+    check_eq(refusal_of_list(&[25, 1, 0, 2, 0, 0], &mut bytes), (21, 0))?;
+    check_eq(refusal_of_list(&[0, 0, 0, 0], &mut bytes), (21, 0))?;
+    check_eq(refusal_of_list(&[0, 1, 0, 4, 0, 0], &mut bytes), (21, 0))?;
+    check_eq(refusal_of_list(&[0, 1, 0, 2, 4, 0], &mut bytes), (21, 0))?;
+    check_eq(refusal_of_list(&[0, 1, 0, 2, 0, 3], &mut bytes), (21, 0))?;
+    check_eq(
+        refusal_of_list(&[1, 1, 1, 2, 0, 0, 2, 4], &mut bytes),
+        (21, 0),
+    )?;
+    check_eq(
+        refusal_of_list(&[1, 1, 1, 2, 0, 0, 6, 2], &mut bytes),
+        (21, 0),
+    )?;
+    check_eq(
+        refusal_of_list(&[0, 1, 0, 2, 0, 0, 0, 1], &mut bytes),
+        (21, 0),
+    )?;
+    check_eq(
+        refusal_of_list(&[u32::MAX, u32::MAX, u32::MAX], &mut bytes),
+        (21, 0),
+    )?;
     check(!is_legal(&[0, 1, 0, 2, 0, 0, 1]) && is_legal(&[0, 1, 0, 2, 0, 0, 0]))?;
     check_eq(bytes, [9; 64])
 }
