@@ -1,3 +1,4 @@
+pub mod Chains
 pub mod Count
 pub mod Steps
 pub mod Depths

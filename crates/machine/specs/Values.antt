@@ -9,16 +9,18 @@ use Rattle.signal.specs.Truth.{lit}
 abbrev pub fed : Sheet → (ℕ → Bool) → (ℕ → Bool) → ℕ → Bool
 fed s c x j = cond (eqb j 0) false (cond (leb j (s .inputs)) (x (j - 1)) (c (j - 1 - s .inputs)))
 
--- the node of gate g
-abbrev pub gateAt : Sheet → ℕ → ℕ
-gateAt s g = 1 + s .inputs + s .latches + g
+-- the values v, and those of n AND gates at the nodes first, first + 1, .., in their order, each the AND of its operands
+abbrev pub chain : ℕ → (ℕ → ℕ) → (ℕ → ℕ) → (ℕ → Bool) → ℕ → ℕ → Bool
+chain first left right v zero j = v j
+chain first left right v (suc g) j =
+    cond (eqb j (first + g))
+    (lit (chain first left right v g) (left g) && lit (chain first left right v g) (right g))
+    (chain first left right v g j)
 
--- the same, and the first n gates, in their order, each the AND of its operands
-abbrev pub after : Sheet → (ℕ → Bool) → (ℕ → Bool) → ℕ → ℕ → Bool
-after s c x zero j = fed s c x j
-after s c x (suc g) j =
-    cond (eqb j (gateAt s g)) (lit (after s c x g) (s .left g) && lit (after s c x g) (s .right g)) (after s c x g j)
+-- the first gate's node
+abbrev pub firstGate : Sheet → ℕ
+firstGate s = 1 + s .inputs + s .latches
 
 -- every node
 abbrev pub values : Sheet → (ℕ → Bool) → (ℕ → Bool) → ℕ → Bool
-values s c x = after s c x (s .gates)
+values s c x = chain (firstGate s) (s .left) (s .right) (fed s c x) (s .gates)
