@@ -1,0 +1,4 @@
+pub mod Formulas
+pub mod Conjunction
+pub mod Starting
+pub mod Framing

@@ -1,0 +1,4 @@
+// Formulas over the latches of a sheet.
+pub fn nothing() -> u8 {
+    0
+}

@@ -1,0 +1,5 @@
+pub mod Questions
+pub mod Clauses
+pub mod Layout
+pub mod Meaning
+pub mod Offsets

@@ -1,0 +1,4 @@
+// Questions.
+pub fn nothing() -> u8 {
+    0
+}
