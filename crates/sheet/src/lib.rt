@@ -3,3 +3,5 @@
 pub mod fault;
 pub mod line;
 pub mod literal;
+pub mod read;
+pub mod write;

@@ -1,0 +1,12 @@
+mod ReadParts
+mod ReadLines
+mod ReadStored
+pub mod Legality
+mod Stages
+mod Spelling
+mod There
+mod Again
+pub mod Trips
+mod Limits
+mod Joins
+mod Written

@@ -1,0 +1,5 @@
+pub mod Cover
+pub mod Steps
+pub mod Fixed
+pub mod Cut
+pub mod Usual
