@@ -15,7 +15,7 @@ use Rattle.lists.specs.Counted.{counted}
 use Rattle.sheet.specs.Sheets.{Sheet, Start, set, unset}
 use Rattle.sheet.specs.Trip.{Iff}
 use Rattle.formula.specs.Formulas.{width}
-use Rattle.formula.specs.Conjunction.{simple, Outcome, grown, short, newGate, conjoinBy, conjoin}
+use Rattle.formula.specs.Conjunction.{simple, Outcome, grown, short, newGate, conjoinBy}
 use Rattle.formula.specs.Starting.{startLiteral, joined, onward, joinStarts, startIn, gatesIn, startSize}
 use Rattle.formula.proofs.Building.{gate-short, gate-grown}
 use Rattle.formula.proofs.Starts.{node-of}

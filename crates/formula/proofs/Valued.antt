@@ -9,16 +9,16 @@ use native.Mathlib.Omega.{arith}
 use lib.Dec.{eqb, leb, ltb}
 use lib.ListN.{length, getD, set, length-set, length-take}
 use Rattle.std.specs.declared.option.Option.{Option}
-use Rattle.std.specs.declared.option.Option.the-variants.{Some, None}
+use Rattle.std.specs.declared.option.Option.the-variants.{Some}
 use Rattle.std.proofs.shelf.Lists.{getD-set-same, getD-set-other}
 use Rattle.std.proofs.shelf.Tests.{cond-true, cond-false, cond-both, eq-eqb, ne-eqb, eqb-true, eqb-false, leb-true, cases-eq, cases-lt, and-parts, and-right, or-cases, or-parts}
 use Rattle.lists.specs.Counted.{counted}
 use Rattle.sheet.specs.Sheets.{Sheet}
 use Rattle.signal.specs.Truth.{lit}
 use Rattle.machine.specs.Values.{chain}
-use Rattle.machine.proofs.Chains.{lit-same, both-same, chain-kept, chain-below}
+use Rattle.machine.proofs.Chains.{lit-same, both-same, chain-below}
 use Rattle.formula.specs.Formulas.{width, leftOf, rightOf, held, nodesAt, valueAt, Named, Formula, Gates}
-use Rattle.formula.specs.Conjunction.{opposite, simple, Outcome, grown, short, newGate, conjoinBy, conjoin, negated, disjoin, Extends, Joins}
+use Rattle.formula.specs.Conjunction.{opposite, Outcome, grown, short, newGate, conjoinBy, conjoin, negated, disjoin, Extends, Joins}
 
 -- ---- bits
 not-not : (b : Bool) → not (not b) ≡ b

@@ -1,5 +1,5 @@
 use mathlib.Core.Path.{sym, ap, _∙_, _≡_}
-use Prim.Native.Nat.{_-_, _+_, _≤_, _<_}
+use Prim.Native.Nat.{_-_}
 use native.Mathlib.Omega.{arith}
 use Rattle.std.specs.Options.{isSome}
 use Rattle.sheet.specs.Sheets.{sheetOf, latchCount}

@@ -1,6 +1,6 @@
-use mathlib.Core.Path.{sym, ap, _∙_}
+use mathlib.Core.Path.{sym, ap}
 use native.Mathlib.Omega.{arith}
-use Rattle.formula.specs.Built.{literal, built}
+use Rattle.formula.specs.Built.{built}
 use Rattle.formula.proofs.Building.{gate-short, gate-grown}
 use Rattle.formula.proofs.builder.Builder.add_gate.Needs as need
 

@@ -1,5 +1,4 @@
-use mathlib.Core.Path.{_∙_}
-use native.Mathlib.Omega.{arith}
+use borrow.Author.Needs.{needs}
 use Rattle.formula.proofs.Building.{and-simple, and-by-gate, conjoin-joins}
 use Rattle.formula.proofs.builder.Builder.and.Needs as need
 
@@ -18,5 +17,6 @@ returns-in-None c =
     let f = c .args .list .now in
     let a = c .args .a in
     let b = c .args .b in
-    let is = and-by-gate g f (a .0) (b .0) (c .max .result) (c .min .result) (c .add-gate .result, c .add-gate .last .self, c .add-gate .last .list) (c .in-None .ensures tt) (omega arith) (omega arith) (c .add-gate .ensures) in
+    let told = c .add-gate .ensures in
+    let is = and-by-gate g f (a .0) (b .0) _ _ (c .add-gate .result, c .add-gate .last .self, c .add-gate .last .list) (c .in-None .ensures tt) (search needs) (search needs) told in
     record { conjoins = is; is-true-where-both-are = conjoin-joins g f a b (c .add-gate .result) (c .add-gate .last .self) (c .add-gate .last .list) is }

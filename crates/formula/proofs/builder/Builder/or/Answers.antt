@@ -1,4 +1,4 @@
-use mathlib.Core.Path.{sym, subst}
+use borrow.Author.Needs.{needs}
 use Rattle.std.specs.declared.option.Option.the-variants.{Some, None}
 use Rattle.formula.proofs.Building.{or-some, or-none, disjoin-joins}
 use Rattle.formula.proofs.builder.Builder.or.Needs as need
@@ -22,6 +22,6 @@ returns c =
     let b = c .args .b in
     let g′ = c .and .last .self in
     let f′ = c .and .last .list in
-    let y = c .opposite-3 .result in
-    let is = or-some g f (a .0) (b .0) (c .opposite .result .0) (c .opposite-2 .result .0) (c .opposite .ensures) (c .opposite-2 .ensures) g′ f′ (c .in-Continue-both .both) y (c .opposite-3 .ensures) (c .in-Continue-both .ensures tt .conjoins) in
-    record { disjoins = is; is-true-where-one-is = disjoin-joins g f a b (Some y) g′ f′ is }
+    let turned = or-some g f (a .0) (b .0) (c .opposite .result .0) (c .opposite-2 .result .0) (c .opposite .ensures) (c .opposite-2 .ensures) g′ f′ (c .in-Continue-both .both) in
+    let told = c .in-Continue-both .ensures tt .conjoins in
+    record { disjoins = turned _ (search needs) told; is-true-where-one-is = disjoin-joins g f a b (Some _) g′ f′ (turned _ (search needs) told) }
