@@ -1,2 +1,3 @@
 // Questions: clauses in a lent list of numbers.
+mod pen;
 pub mod read;
