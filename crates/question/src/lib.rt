@@ -1,3 +1,4 @@
 // Questions: clauses in a lent list of numbers.
 mod pen;
 pub mod read;
+mod unroll;
