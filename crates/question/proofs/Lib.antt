@@ -1,2 +1,3 @@
 mod Cutting
+mod Fitting
 mod Turns

@@ -3,6 +3,8 @@ use mathlib.Core.List.{List, [], _∷_}
 use mathlib.Core.Path.{_≡_}
 use Prim.Native.Nat.{ℕ, _+_, _^_, _≤_, _<_}
 use lib.ListN.{length, set, replicate}
+use Rattle.formula.specs.Formulas.{leftOf, rightOf}
+use Rattle.formula.specs.Framing.{inQuestion}
 use Rattle.formula.specs.declared.question_literal.QuestionLiteral.{QuestionLiteral}
 use Rattle.question.specs.declared.pen.Pen.{Pen}
 
@@ -47,3 +49,7 @@ Room q p n m = (p .at + n ≤ p .to) × (p .to + m ≤ length q) × (p .to + m <
 -- the pen has written n clauses of m literals in all
 abbrev pub Moved : Pen → Pen → ℕ → ℕ → Type 0
 Moved p r n m = (r .at ≡ p .at + n) × (r .to ≡ p .to + m)
+
+-- each operand of the first n gates of a formula list has 32 bits in a question of m frames
+abbrev pub OperandsFit : ℕ → ℕ → List ℕ → ℕ → Type 0
+OperandsFit w m f n = (g : ℕ) → g < n → (inQuestion w m (leftOf f g) < 2 ^ 32) × (inQuestion w m (rightOf f g) < 2 ^ 32)
