@@ -1,3 +1,5 @@
 mod Cutting
 mod Fitting
 mod Turns
+mod Laying
+pub mod Counts
