@@ -1,6 +1,5 @@
 -- The literals of every clause ascend. Assumes nothing.
 use mathlib.Core.List.{List, [], _∷_}
-use mathlib.Core.Logic.{⊎-elim}
 use mathlib.Core.Path.{_≡_, sym, subst, _∙_}
 use Prim.Native.Nat.{ℕ, zero, suc, _+_, _-_, _*_, _/_, _%_, _≤_, _<_}
 use native.Mathlib.Numerals.{add-one}
@@ -12,10 +11,11 @@ use Rattle.lists.specs.Stretch.{stretch}
 use Rattle.sheet.specs.Sheets.{Sheet}
 use Rattle.machine.specs.Values.{gateAt}
 use Rattle.formula.specs.Conjunction.{opposite}
-use Rattle.formula.specs.Formulas.{width, leftOf, rightOf, Named, Gates}
+use Rattle.formula.specs.Formulas.{width, leftOf, rightOf, Gates}
 use Rattle.formula.specs.Framing.{inFrame, inQuestion}
 use Rattle.question.specs.Clauses.{andClauses, gateLiteral, latchLiteral, firstClauses, secondClauses, pathClauses}
 use Rattle.question.specs.Questions.{Mem, Clause}
+use Rattle.question.proofs.Formulae.{named-low}
 use Rattle.question.proofs.Literals.{row-more, opposite-half, placed-above, posed-half, posed-sign}
 use Rattle.question.proofs.Parts.{stretch-all, single, FrameParts, LinkParts, FormulaParts, single-whole, path-whole}
 use Rattle.question.proofs.Variables.{Lawful, Over, over-mem}
@@ -74,9 +74,6 @@ module _ (s : Sheet) (lawful : Lawful s) where
   end-rises k = (rw add-one (omega arith), framed-rise w (s .bad) (k + 1) 1 (omega arith))
 
   module _ (f : List ℕ) (n : ℕ) (gates : Gates s f n) where
-    named-low : (g j : ℕ) → Named s g j → j < w + g
-    named-low g j = ⊎-elim (λ (a : (s .inputs < j) × (j ≤ s .inputs + s .latches)). omega arith) (λ (a : (w ≤ j) × (j < w + g)). a .1)
-
     gates-rise : (m : ℕ) → FormulaParts Rising s m f n
     gates-rise m g h =
         let own : ℕ = 2 * (w + g) in
@@ -86,7 +83,7 @@ module _ (s : Sheet) (lawful : Lawful s) where
         λ x y l. omega (arith, posed-half w m x, posed-half w m y, placed-above w m (x / 2) (y / 2) l) in
         and-rises (inQuestion w m own) (inQuestion w m (leftOf f g)) (inQuestion w m (rightOf f g)) (omega arith)
         (above (rightOf f g) (leftOf f g) (gates .order g h))
-        (above (leftOf f g) own (omega (arith, named-low g (leftOf f g / 2) (gates .lefts g h))))
+        (above (leftOf f g) own (omega (arith, named-low s g (leftOf f g / 2) (gates .lefts g h))))
 
     pub path-rises : (r k : ℕ) → All Rising (pathClauses s f n r k)
     path-rises r k =

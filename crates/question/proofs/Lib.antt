@@ -1,5 +1,9 @@
 pub mod Literals
 pub mod Parts
+pub mod Formulae
 pub mod Variables
 pub mod Ascents
 pub mod Propriety
+pub mod Holding
+pub mod Frames
+pub mod Singles

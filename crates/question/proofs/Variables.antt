@@ -15,6 +15,7 @@ use Rattle.formula.specs.Formulas.{width, leftOf, rightOf, Named, Formula, Gate
 use Rattle.formula.specs.Framing.{inFrame, inQuestion}
 use Rattle.question.specs.Clauses.{andClauses, gateLiteral, latchLiteral, firstClauses, secondClauses, pathClauses}
 use Rattle.question.specs.Questions.{Mem}
+use Rattle.question.proofs.Formulae.{named-more}
 use Rattle.question.proofs.Literals.{row-less, opposite-half, framed-half, placed, placed-low, placed-high, posed-half, posed-sign}
 use Rattle.question.proofs.Parts.{stretch-all, single, FrameParts, LinkParts, FormulaParts, FirstParts, SecondParts, single-whole, first-whole, second-whole}
 
@@ -120,10 +121,6 @@ module _ (Q : ℕ → Type 0) where
         (λ (z : x / 2 ≡ 0). subst Q (sym (posed-half w m x ∙ placed-low w m (x / 2) (omega arith) ∙ z)) zero)
         (posed-over m n some each x)
 
-    named-more : (g n j : ℕ) → g ≤ n → Named s g j → Named s n j
-    named-more g n j h =
-        ⊎-elim (λ (a : (s .inputs < j) × (j ≤ s .inputs + s .latches)). inl a) (λ (a : (w ≤ j) × (j < w + g)). inr (a .0, omega arith))
-
     pub gates-over : (m n : ℕ) (f : List ℕ) → 1 ≤ m → Gates s f n → FormulaNodes m n → FormulaParts (Over Q) s m f n
     gates-over m n f some gates each g h =
         let x : ℕ = inQuestion w m (2 * (w + g)) in
@@ -131,8 +128,8 @@ module _ (Q : ℕ → Type 0) where
         let same : x / 2 ≡ (x + 1) / 2 = let even : x % 2 ≡ 2 * (w + g) % 2 = posed-sign w m (2 * (w + g)) in omega arith in
         and-over x (inQuestion w m (leftOf f g)) (inQuestion w m (rightOf f g)) same
         (posed-over m n some each (2 * (w + g)) (inr (omega arith, omega arith)))
-        (posed-over m n some each (leftOf f g) (named-more g n (leftOf f g / 2) (omega arith) (gates .lefts g h)))
-        (posed-over m n some each (rightOf f g) (named-more g n (rightOf f g / 2) (omega arith) (gates .rights g h)))
+        (posed-over m n some each (leftOf f g) (named-more s g n (leftOf f g / 2) (omega arith) (gates .lefts g h)))
+        (posed-over m n some each (rightOf f g) (named-more s g n (rightOf f g / 2) (omega arith) (gates .rights g h)))
 
     -- ---- whole questions
     module _ (f : List ℕ) (n : ℕ) (gates : Gates s f n) where

@@ -1,7 +1,12 @@
 // The laws of the questions' clauses.
+ghost use Rattle.question.specs.Meaning.{Start-asks, Inclusion-asks, Start-tells, Inclusion-tells};
 ghost use Rattle.question.specs.Meaning.{Start-proper, Path-proper, Inclusion-proper};
 
 pub fn laws_hold() -> u8
+    ensures start_asks_for_a_bad_state { λ _. ⌜ Start-asks ⌝ }
+    ensures start_answer_tells_the_state { λ _. ⌜ Start-tells ⌝ }
+    ensures inclusion_asks_for_a_state_outside { λ _. ⌜ Inclusion-asks ⌝ }
+    ensures inclusion_answer_tells_the_state { λ _. ⌜ Inclusion-tells ⌝ }
     ensures start_clauses_are_proper { λ _. ⌜ Start-proper ⌝ }
     ensures path_clauses_are_proper { λ _. ⌜ Path-proper ⌝ }
     ensures inclusion_clauses_are_proper { λ _. ⌜ Inclusion-proper ⌝ }
