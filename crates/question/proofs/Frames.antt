@@ -37,7 +37,7 @@ module _ (s : Sheet) (α : ℕ → Bool) where
   w = width s
 
   -- ---- what the bits of a frame are
-  latch-bit : (t i : ℕ) → i < s .latches → slice w α t (latchAt s i) ≡ bit (frameAt s α t .state) i
+  pub latch-bit : (t i : ℕ) → i < s .latches → slice w α t (latchAt s i) ≡ bit (frameAt s α t .state) i
   latch-bit t i h = sym (getD-map-counting α (t * w + 1 + s .inputs) (s .latches) i (t * w + latchAt s i) false h (omega arith))
 
   input-bit : (t i : ℕ) → i < s .inputs → slice w α t (inputAt s i) ≡ bit (frameAt s α t .inputs) i

@@ -7,3 +7,4 @@ pub mod Propriety
 pub mod Holding
 pub mod Frames
 pub mod Singles
+pub mod Paths
