@@ -8,3 +8,4 @@ pub mod Holding
 pub mod Frames
 pub mod Singles
 pub mod Paths
+pub mod Sides

@@ -1,5 +1,6 @@
 use Rattle.question.proofs.Paths.{path-asks, path-tells}
 use Rattle.question.proofs.Propriety.{start-proper, path-proper, inclusion-proper}
+use Rattle.question.proofs.Sides.{path-sides}
 use Rattle.question.proofs.Singles.{start-asks, start-tells, inclusion-asks, inclusion-tells}
 use Rattle.question.proofs.laws.laws_hold.Needs as need
 
@@ -15,4 +16,5 @@ returns c =
       start-clauses-are-proper = start-proper;
       path-clauses-are-proper = path-proper;
       inclusion-clauses-are-proper = inclusion-proper;
+      path-parts-have-their-variables = path-sides;
     }
