@@ -2,3 +2,4 @@ pub mod Formulas
 pub mod Conjunction
 pub mod Starting
 pub mod Framing
+pub mod Built

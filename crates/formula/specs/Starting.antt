@@ -1,9 +1,12 @@
 -- The start formula: true exactly in the start states. Assumes nothing.
-use mathlib.Core.Bool.{Bool, true, false, cond}
-use mathlib.Core.List.{List, [], _++_}
+use mathlib.Core.Bool.{Bool, cond}
+use mathlib.Core.List.{List}
 use mathlib.Core.Path.{_≡_}
 use Prim.Native.Nat.{ℕ, zero, suc, _+_, _*_, _<_}
-use lib.ListN.{length, replicate}
+use lib.ListN.{replicate}
+use Rattle.std.specs.Orderings.{Decides}
+use Rattle.std.specs.declared.option.Option.{Option}
+use Rattle.std.specs.declared.option.Option.the-variants.{Some, None}
 use Rattle.sheet.specs.Sheets.{Sheet, Start, set, unset}
 use Rattle.formula.specs.Formulas.{width, valueAt, Formula, Gates}
 use Rattle.formula.specs.Conjunction.{Outcome, grown, short, conjoin}
@@ -32,3 +35,22 @@ startIn s places = joinStarts s (s .latches) 0 1 0 (replicate places 0)
 -- a state, latch by latch, has every start bit that is set
 abbrev pub StartBits : Sheet → (ℕ → Bool) → Type 0
 StartBits s c = (i : ℕ) (b : Bool) → i < s .latches → s .start i ≡ set b → c i ≡ b
+
+-- the literal of latch i that the start formula has, if the latch starts with a bit
+abbrev pub startMark : Sheet → ℕ → Start → Option ℕ
+startMark s i (set b) = Some (startLiteral s i b)
+startMark s i unset = None
+
+abbrev pub gatesIn : Outcome → ℕ
+gatesIn (grown x n f) = n
+gatesIn short = 0
+
+-- how many gates the start formula has: no more than one for each latch
+abbrev pub startSize : Sheet → ℕ
+startSize s = gatesIn (startIn s (2 * s .latches))
+
+-- n gates of f, and their literal x, which is true exactly at the start states
+pub record Starts (s : Sheet) (f : List ℕ) (n x : ℕ) : Type 0 where
+  pub gates : Gates s f n
+  pub formula : Formula s n x
+  pub value : (c : ℕ → Bool) → Decides (valueAt s f n c x) (StartBits s c)

@@ -1,3 +1,4 @@
+mod Cutting
 pub mod Literals
 pub mod Parts
 pub mod Formulae
