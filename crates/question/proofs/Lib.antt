@@ -3,3 +3,14 @@ mod Fitting
 mod Turns
 mod Laying
 pub mod Counts
+pub mod Literals
+pub mod Parts
+pub mod Formulae
+pub mod Variables
+pub mod Ascents
+pub mod Propriety
+pub mod Holding
+pub mod Frames
+pub mod Singles
+pub mod Paths
+pub mod Sides
