@@ -6,7 +6,7 @@ use native.Mathlib.Omega.{arith}
 use lib.ListN.{length, set, take, drop, replicate, length-drop}
 use Rattle.std.proofs.shelf.Lists.{append-assoc, set-at, take-append-drop, length-take-le, length-append, length-push, length-replicate, replicate-append-replicate}
 use Rattle.question.specs.declared.pen.Pen.{Pen}
-use Rattle.question.specs.Layout.{flat, starts, encode}
+use Rattle.question.specs.Layout.{flat, starts, encode, written}
 use Rattle.question.specs.Writing.{pen, begun, pushes, puts, closed}
 
 -- the literals of a clause replace as many numbers
@@ -98,3 +98,10 @@ module _ (v a : ℕ) (cs : List (List ℕ)) (n : ℕ) (room : length (encode v a
       let list : set (b ++ (0 ∷ (flat cs ++ zs))) (3 + length cs) e ≡ encode v a cs ++ zs =
       set-at b 0 (flat cs ++ zs) e (3 + length cs) (omega (arith, length-starts cs t)) ∙ sym (append-assoc b (e ∷ flat cs) zs) in
       ap closed done ∙ ap (λ l. (e, l)) list ∙ ap (λ m. (m, encode v a cs ++ zs)) (sym size)
+
+-- the same, with other names for what was written in front
+pub written-is : (v a : ℕ) (cs : List (List ℕ)) (n v′ c a′ : ℕ) → v′ ≡ v → c ≡ length cs → a′ ≡ a → 4 + length cs + length (flat cs) ≤ n →
+    (p q : List ℕ × Pen) → p ≡ begun n v′ c a′ → q ≡ puts p cs → (r : ℕ × List ℕ) → r ≡ closed q → r ≡ written (encode v a cs) n
+written-is v a cs n v′ c a′ vs counts firsts room p q begins puts-all r ends =
+    let head : p ≡ begun n v (length cs) a = begins ∙ (λ i. begun n (vs i) (counts i) (firsts i)) in
+    ends ∙ closed-is v a cs n (omega (arith, length-encode v a cs)) q (puts-all ∙ ap (λ x. puts x cs) head)

@@ -14,8 +14,16 @@ puts-append [] ys p = refl
 puts-append (x ∷ xs) ys p = puts-append xs ys (put p x)
 
 -- clauses, and then others
-pub puts-both : (xs ys : List (List ℕ)) (p a b : List ℕ × Pen) → a ≡ puts p xs → b ≡ puts a ys → b ≡ puts p (xs ++ ys)
-puts-both xs ys p a b e f = f ∙ ap (λ q. puts q ys) e ∙ sym (puts-append xs ys p)
+pub two-parts : (xs ys : List (List ℕ)) (p a b : List ℕ × Pen) → a ≡ puts p xs → b ≡ puts a ys → b ≡ puts p (xs ++ ys)
+two-parts xs ys p a b e f = f ∙ ap (λ q. puts q ys) e ∙ sym (puts-append xs ys p)
+
+pub three-parts : (xs ys zs : List (List ℕ)) (p a b c : List ℕ × Pen) → a ≡ puts p xs → b ≡ puts a ys → c ≡ puts b zs →
+    c ≡ puts p (xs ++ (ys ++ zs))
+three-parts xs ys zs p a b c e f g = two-parts xs (ys ++ zs) p a c e (two-parts ys zs a b c f g)
+
+pub four-parts : (ws xs ys zs : List (List ℕ)) (p a b c d : List ℕ × Pen) → a ≡ puts p ws → b ≡ puts a xs → c ≡ puts b ys → d ≡ puts c zs →
+    d ≡ puts p (ws ++ (xs ++ (ys ++ zs)))
+four-parts ws xs ys zs p a b c d e f g h = two-parts ws (xs ++ (ys ++ zs)) p a d e (three-parts xs ys zs a b c d f g h)
 
 stretch-more : {X : Type 0} (f : ℕ → List X) (i n : ℕ) → i < n → stretch f i (n - i) ≡ f i ++ stretch f (i + 1) (n - (i + 1))
 stretch-more f i n h = let m : n - i ≡ suc (n - (i + 1)) = omega arith in rw m

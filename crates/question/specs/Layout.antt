@@ -41,6 +41,10 @@ abbrev pub allBelow : ℕ → List ℕ → Bool
 allBelow m [] = true
 allBelow m (x ∷ xs) = ltb x m && allBelow m xs
 
+-- how long a question is, and a list of n places with it in front and zeros behind
+abbrev pub written : List ℕ → ℕ → ℕ × List ℕ
+written q n = (length q, q ++ replicate (n - length q) 0)
+
 -- a question in a lent list, with zeros behind, if there is room and each number has 32 bits; the result is its length
 abbrev pub posed : List ℕ → List ℕ → Option ℕ × List ℕ
 posed q old =

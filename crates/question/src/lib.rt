@@ -1,4 +1,5 @@
-// Questions: clauses in a lent list of numbers.
+// Questions: clauses in a lent list of numbers. Reading one, and building the three that are asked of a machine.
+pub mod build;
 mod gates;
 pub mod laws;
 mod pen;
