@@ -10,7 +10,7 @@ use Rattle.lists.specs.Stretch.{stretch}
 use Rattle.sheet.specs.Sheets.{Sheet}
 use Rattle.formula.specs.Formulas.{width}
 use Rattle.formula.specs.Framing.{inFrame}
-use Rattle.question.specs.Clauses.{gateClauses, frameClauses, latchClauses, linkClauses, formulaGate, formulaClauses, unit, badClauses, stateClauses, firstClauses, secondClauses}
+use Rattle.question.specs.Clauses.{gateClauses, frameClauses, latchClauses, linkClauses, formulaGate, formulaClauses, unit, badClauses, stateClauses, firstClauses, secondClauses, pathClauses}
 use Rattle.question.specs.Layout.{flat}
 use Rattle.question.specs.Sizes.{stateClauseCount, stateLiteralCount, firstClauseCount, firstLiteralCount, secondClauseCount, secondLiteralCount}
 
@@ -128,3 +128,9 @@ module _ (s : Sheet) where
           stretch-literals (frameClauses s) (1 + 7 * s .gates) frame-literals (k + 1) 1,
           stretch-literals (linkClauses s) (4 * s .latches) link-literals k 1,
         )
+
+    pub path-length : (f : List ℕ) (n r : ℕ) → length (pathClauses s f n r k) ≡ firstClauseCount s n + secondClauseCount s k
+    path-length f n r = length-append (firstClauses s f n r k) (secondClauses s k) ∙ (λ i. first-length f n r k i + second-length i)
+
+    pub path-literals : (f : List ℕ) (n r : ℕ) → literals (pathClauses s f n r k) ≡ firstLiteralCount s n + secondLiteralCount s k
+    path-literals f n r = literals-append (firstClauses s f n r k) (secondClauses s k) ∙ (λ i. first-literals f n r k i + second-literals i)

@@ -112,3 +112,64 @@ fn write_state(
     let pen = put_clause(question, pen, &[y]);
     finish(question, pen)
 }
+
+// The first part of a path question: frame 0, its link, the formula gates and `r`.
+fn put_first(
+    question: &mut [u32],
+    pen: Pen,
+    sheet: &[u32],
+    formula: &[u32],
+    gates: u32,
+    r: Literal,
+    k: u32,
+) -> Pen
+    requires legal { ⌜ Legal (now sheet) ⌝ }
+    requires bound { ⌜ k ≤ 30 ⌝ }
+    requires whole { ⌜ 2 * gates ≤ length (now formula) ⌝ ∗ ⌜ length (now formula) ≤ 2 ^ 28 ⌝ }
+    requires bits { ⌜ OperandsFit (width (sheetOf (now sheet))) (k + 2) (now formula) gates ⌝ ∗ ⌜ inQuestion (width (sheetOf (now sheet))) (k + 2) (r .0) < 2 ^ 32 ⌝ }
+    requires room { ⌜ Room (now question) pen (firstClauseCount (sheetOf (now sheet)) gates) (firstLiteralCount (sheetOf (now sheet)) gates) ⌝ }
+    ensures page { λ p. ⌜ (now (question .exit), p) ≡ puts (now (question .entry), pen) (firstClauses (sheetOf (now (sheet .entry))) (now (formula .entry)) gates (r .0) k) ⌝ }
+    ensures moved { λ p. ⌜ Moved pen p (firstClauseCount (sheetOf (now (sheet .entry))) gates) (firstLiteralCount (sheetOf (now (sheet .entry))) gates) ⌝ }
+{
+    let pen = put_frame(question, pen, sheet, 0);
+    let pen = put_link(question, pen, sheet, 0);
+    let pen = put_formula(question, pen, sheet, k + 2, formula, gates);
+    put_clause(question, pen, &[placed(sheet, k + 2, r)])
+}
+
+// The second part: the other frames, the links between them, and `bad` in one of them.
+fn put_second(question: &mut [u32], pen: Pen, sheet: &[u32], k: u32) -> Pen
+    requires legal { ⌜ Legal (now sheet) ⌝ }
+    requires bound { ⌜ k ≤ 30 ⌝ }
+    requires room { ⌜ Room (now question) pen (secondClauseCount (sheetOf (now sheet)) k) (secondLiteralCount (sheetOf (now sheet)) k) ⌝ }
+    ensures page { λ p. ⌜ (now (question .exit), p) ≡ puts (now (question .entry), pen) (secondClauses (sheetOf (now (sheet .entry))) k) ⌝ }
+    ensures moved { λ p. ⌜ Moved pen p (secondClauseCount (sheetOf (now (sheet .entry))) k) (secondLiteralCount (sheetOf (now (sheet .entry))) k) ⌝ }
+{
+    let pen = put_frames(question, pen, sheet, k);
+    let pen = put_links(question, pen, sheet, k);
+    put_bad(question, pen, sheet, k)
+}
+
+fn write_path(
+    sheet: &[u32],
+    formula: &[u32],
+    gates: u32,
+    r: Literal,
+    k: u32,
+    question: &mut [u32],
+) -> usize
+    requires legal { ⌜ Legal (now sheet) ⌝ }
+    requires bound { ⌜ k ≤ 30 ⌝ }
+    requires whole { ⌜ 2 * gates ≤ length (now formula) ⌝ ∗ ⌜ length (now formula) ≤ 2 ^ 28 ⌝ }
+    requires bits { ⌜ OperandsFit (width (sheetOf (now sheet))) (k + 2) (now formula) gates ⌝ ∗ ⌜ inQuestion (width (sheetOf (now sheet))) (k + 2) (r .0) < 2 ^ 32 ⌝ }
+    requires room { ⌜ 4 + (firstClauseCount (sheetOf (now sheet)) gates + secondClauseCount (sheetOf (now sheet)) k) + (firstLiteralCount (sheetOf (now sheet)) gates + secondLiteralCount (sheetOf (now sheet)) k) ≤ length (now question) ⌝ ∗ ⌜ length (now question) ≤ 2 ^ 28 ⌝ }
+    ensures { λ n. ⌜ (n, now (question .exit)) ≡ written (pathList (sheetOf (now (sheet .entry))) (now (formula .entry)) gates (r .0) k) (length (now (question .entry))) ⌝ }
+{
+    let first = first_size(sheet, gates).clauses;
+    let clauses = first + second_size(sheet, k).clauses;
+    let variables = (k + 2) * node_count(sheet) + gates;
+    let pen = begin(question, variables, clauses, first);
+    let pen = put_first(question, pen, sheet, formula, gates, r, k);
+    let pen = put_second(question, pen, sheet, k);
+    finish(question, pen)
+}
