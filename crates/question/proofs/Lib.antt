@@ -1,8 +1,4 @@
 mod Cutting
-mod Fitting
-mod Turns
-mod Laying
-pub mod Counts
 pub mod Literals
 pub mod Parts
 pub mod Formulae
@@ -14,3 +10,7 @@ pub mod Frames
 pub mod Singles
 pub mod Paths
 pub mod Sides
+mod Turns
+mod Laying
+pub mod Counts
+mod Fitting
