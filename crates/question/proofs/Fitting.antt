@@ -164,18 +164,18 @@ module _ (l : List ℕ) (legal : Legal l) (f : List ℕ) (n : ℕ) (whole : 2 * 
   lawful : Lawful s
   lawful = legal-lawful l legal
 
-  few : width s ≤ 249
-  few =
+  pub few-nodes : width s ≤ 249
+  few-nodes =
       let a : s .inputs ≤ 24 = legal .few-inputs in
       let b : s .latches ≤ 24 = legal .few-latches in
       let c : s .gates ≤ 200 = legal .few-gates in
       omega arith
 
-  some : n ≤ 2 ^ 27
-  some = omega arith
+  pub few-gates : n ≤ 2 ^ 27
+  few-gates = omega arith
 
   nodes-small : (t : ℕ) → t ≤ 31 → NodesOf Small s lawful t
-  nodes-small t h j lt = omega (arith, mul-le t (width s) 31 249 h few)
+  nodes-small t h j lt = omega (arith, mul-le t (width s) 31 249 h few-nodes)
 
   -- what the code tests, where there are m frames
   abbrev pub formulaFits : ℕ → ℕ → Bool
@@ -200,7 +200,7 @@ module _ (l : List ℕ) (legal : Legal l) (f : List ℕ) (n : ℕ) (whole : 2 * 
       (λ h.
       let p = single-parts (Over Small) s f n x′ y (below-small (stateClauses s f n x y) h) in
       let first : x′ / 2 < 2 ^ 31 = p .first .0 in
-      fitting-from 1 x (record { operands = small-gates s few 1 (omega arith) f n some (p .formulas); literal = omega arith }))
+      fitting-from 1 x (record { operands = small-gates s few-nodes 1 (omega arith) f n few-gates (p .formulas); literal = omega arith }))
       (λ h.
       let fit = fitting-tells 1 x h in
       let first : x′ < 2 ^ 32 = fit .literal in
@@ -208,7 +208,7 @@ module _ (l : List ℕ) (legal : Legal l) (f : List ℕ) (n : ℕ) (whole : 2 * 
       (single-whole (Over Small) s f n x′ y
       (record {
         frame = frame-over Small s lawful 0 (nodes-small 0 (omega arith));
-        formulas = gates-small s few 1 (omega arith) f n some (fit .operands);
+        formulas = gates-small s few-nodes 1 (omega arith) f n few-gates (fit .operands);
         first = (omega arith, tt);
         second = (omega arith, tt);
       })))
@@ -220,7 +220,7 @@ module _ (l : List ℕ) (legal : Legal l) (f : List ℕ) (n : ℕ) (whole : 2 * 
       (λ h.
       let p = path-parts (Over Small) s f n r k (below-small (pathClauses s f n r k) h) .0 in
       let first : r′ / 2 < 2 ^ 31 = p .begin .0 in
-      fitting-from (k + 2) r (record { operands = small-gates s few (k + 2) (omega arith) f n some (p .formulas); literal = omega arith }))
+      fitting-from (k + 2) r (record { operands = small-gates s few-nodes (k + 2) (omega arith) f n few-gates (p .formulas); literal = omega arith }))
       (λ h.
       let fit = fitting-tells (k + 2) r h in
       let first : r′ < 2 ^ 32 = fit .literal in
@@ -230,7 +230,7 @@ module _ (l : List ℕ) (legal : Legal l) (f : List ℕ) (n : ℕ) (whole : 2 * 
       (record {
         frame = frame-over Small s lawful 0 (nodes-small 0 (omega arith));
         link = link-over Small s lawful 0 (nodes-small 0 (omega arith)) (latches 1 (omega arith));
-        formulas = gates-small s few (k + 2) (omega arith) f n some (fit .operands);
+        formulas = gates-small s few-nodes (k + 2) (omega arith) f n few-gates (fit .operands);
         begin = (omega arith, tt);
       })
       (record {

@@ -14,3 +14,5 @@ mod Turns
 mod Laying
 pub mod Counts
 mod Fitting
+mod Posing
+pub mod Reading

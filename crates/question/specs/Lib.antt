@@ -4,4 +4,5 @@ pub mod Layout
 pub mod Sizes
 pub mod Writing
 pub mod Meaning
+pub mod Laid
 pub mod Offsets

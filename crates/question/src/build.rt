@@ -13,8 +13,7 @@ ghost use Rattle.question.specs.Clauses.{stateClauses, firstClauses, secondCla
 ghost use Rattle.question.specs.Layout.{encode, startList, pathList, inclusionList, given, posed, posedIf, written};
 ghost use Rattle.question.specs.Sizes.{stateClauseCount, stateLiteralCount, firstClauseCount, firstLiteralCount, secondClauseCount, secondLiteralCount};
 ghost use Rattle.question.specs.Writing.{puts, Room, Moved, OperandsFit};
-use crate::gates::all_fit;
-use crate::gates::literal_fits;
+use crate::gates::formulas_fit;
 use crate::gates::placed;
 use crate::gates::put_formula;
 use crate::pen::Pen;
@@ -172,4 +171,63 @@ fn write_path(
     let pen = put_first(question, pen, sheet, formula, gates, r, k);
     let pen = put_second(question, pen, sheet, k);
     finish(question, pen)
+}
+
+// A question of one frame, if it fits.
+fn pose_state(
+    sheet: &[u32],
+    formula: &[u32],
+    gates: u32,
+    x: Literal,
+    y: QuestionLiteral,
+    question: &mut [u32],
+) -> Option<usize>
+    requires legal { ⌜ Legal (now sheet) ⌝ }
+    requires whole { ⌜ 2 * gates ≤ length (now formula) ⌝ ∗ ⌜ length (now formula) ≤ 2 ^ 28 ⌝ }
+    requires counts { ⌜ length (now question) ≤ 2 ^ 28 ⌝ }
+    ensures { λ n. ⌜ (n, now (question .exit)) ≡ posed (encode (width (sheetOf (now (sheet .entry))) + gates) 0 (stateClauses (sheetOf (now (sheet .entry))) (now (formula .entry)) gates (x .0) (y .0))) (now (question .entry)) ⌝ }
+{
+    let size = state_size(sheet, gates);
+    if question.len() < 4 + size.clauses + size.literals {
+        return None;
+    }
+    if !formulas_fit(sheet, 1, formula, gates, x) {
+        return None;
+    }
+    Some(write_state(sheet, formula, gates, x, y, question))
+}
+
+// A path question, if it fits.
+fn pose_path(
+    sheet: &[u32],
+    formula: &[u32],
+    gates: u32,
+    r: Literal,
+    k: u32,
+    question: &mut [u32],
+) -> Option<usize>
+    requires legal { ⌜ Legal (now sheet) ⌝ }
+    requires bound { ⌜ k ≤ 30 ⌝ }
+    requires whole { ⌜ 2 * gates ≤ length (now formula) ⌝ ∗ ⌜ length (now formula) ≤ 2 ^ 28 ⌝ }
+    requires counts { ⌜ length (now question) ≤ 2 ^ 28 ⌝ }
+    ensures { λ n. ⌜ (n, now (question .exit)) ≡ posed (pathList (sheetOf (now (sheet .entry))) (now (formula .entry)) gates (r .0) k) (now (question .entry)) ⌝ }
+{
+    let first = first_size(sheet, gates);
+    let second = second_size(sheet, k);
+    let clauses = first.clauses + second.clauses;
+    let literals = first.literals + second.literals;
+    if question.len() < 4 + clauses + literals {
+        return None;
+    }
+    if !formulas_fit(sheet, k + 2, formula, gates, r) {
+        return None;
+    }
+    Some(write_path(sheet, formula, gates, r, k, question))
+}
+
+// Whether the lists are what the builders work on: a legal sheet, and a formula list that has so many gates.
+fn is_given(sheet: &[u32], formula: &[u32], gates: u32) -> bool
+    ensures { λ b. ⌜ b ≡ given (now (sheet .entry)) (now (formula .entry)) gates ⌝ }
+{
+    is_legal(sheet) && 2 * gates as usize <= counted_len(formula.len())
 }

@@ -1,9 +1,10 @@
 // The clauses of formulas: their gates, whose variables come after the last frame.
+ghost use mathlib.Core.Bool.{_&&_};
 ghost use mathlib.Core.List.{map};
 ghost use mathlib.Core.Path.{_≡_};
 ghost use Prim.Native.Nat.{_+_, _*_, _^_, _<_, _≤_};
 ghost use lib.Dec.{ltb};
-ghost use lib.ListN.{length};
+ghost use lib.ListN.{length, take};
 ghost use Rattle.sheet.specs.Sheets.{sheetOf, Legal};
 ghost use Rattle.formula.specs.Formulas.{width};
 ghost use Rattle.formula.specs.Framing.{inQuestion};
@@ -36,6 +37,21 @@ pub(crate) fn all_fit(sheet: &[u32], frames: u32, literals: &[u32]) -> bool
         }
     }
     true
+}
+
+// Whether the operands of all gates have, and a literal.
+pub(crate) fn formulas_fit(
+    sheet: &[u32],
+    frames: u32,
+    formula: &[u32],
+    gates: u32,
+    literal: Literal,
+) -> bool
+    requires legal { ⌜ Legal (now sheet) ⌝ }
+    requires whole { ⌜ 2 * gates ≤ length (now formula) ⌝ }
+    ensures { λ r. ⌜ r ≡ (allBelow (2 ^ 32) (map (inQuestion (width (sheetOf (now (sheet .entry)))) frames) (take (2 * gates) (now (formula .entry)))) && ltb (inQuestion (width (sheetOf (now (sheet .entry)))) frames (literal .0)) (2 ^ 32)) ⌝ }
+{
+    all_fit(sheet, frames, &formula[0..2 * gates as usize]) && literal_fits(sheet, frames, literal)
 }
 
 // A formula's literal in a question of so many frames, where it has 32 bits.
