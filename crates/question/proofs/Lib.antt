@@ -16,3 +16,4 @@ pub mod Counts
 mod Fitting
 mod Posing
 pub mod Reading
+mod Promises

@@ -1,5 +1,5 @@
 -- What posing a question answers and leaves. Assumes nothing.
-use mathlib.Core.Path.{_≡_, sym, ap, _∙_}
+use mathlib.Core.Path.{_≡_, sym, ap, subst, _∙_}
 use mathlib.Core.Bool.{Bool, true, false, _&&_}
 use mathlib.Core.List.{List, _++_}
 use Prim.Native.Nat.{ℕ, _+_, _-_, _*_, _^_, _≤_, _<_, min}
@@ -17,9 +17,11 @@ use Rattle.lists.proofs.Taken.{take-min, drop-min}
 use Rattle.sheet.specs.Render.{wellFormed}
 use Rattle.sheet.specs.Sheets.{Sheet, Legal, sheetOf}
 use Rattle.sheet.proofs.Legality.{wellFormed-legal}
+use Rattle.formula.specs.Conjunction.{opposite}
 use Rattle.formula.specs.Formulas.{width}
+use Rattle.formula.specs.Framing.{inFrame, inQuestion}
 use Rattle.question.specs.Clauses.{stateClauses, firstClauses, secondClauses, pathClauses}
-use Rattle.question.specs.Layout.{flat, encode, pathList, allBelow, written, given, posed, posedIf}
+use Rattle.question.specs.Layout.{flat, encode, startList, pathList, inclusionList, allBelow, written, given, posed, posedIf}
 use Rattle.question.specs.Sizes.{stateClauseCount, stateLiteralCount, firstClauseCount, firstLiteralCount, secondClauseCount, secondLiteralCount}
 use Rattle.question.proofs.Counts.{state-length, state-literals, path-length, path-literals}
 use Rattle.question.proofs.Fitting.{encode-below, few-nodes, few-gates, formulaFits, state-below, path-below}
@@ -140,3 +142,35 @@ given-is l f n len formed cut =
 pub given-tells : (l f : List ℕ) (n : ℕ) → given l f n ≡ true → Legal (counted l) × (2 * n ≤ length (counted f))
 given-tells l f n h =
     let p = and-parts (wellFormed (counted l)) _ h in (wellFormed-legal (counted l) (p .0), leb-true _ _ (p .1))
+
+-- what counts of the lists, where they are such
+pub record Ready (l f : List ℕ) (n : ℕ) : Type 0 where
+  pub legal : Legal l
+  pub whole : 2 * n ≤ length f
+  pub few : length f ≤ 2 ^ 28
+
+pub given-ready : (l f l′ f′ : List ℕ) (n : ℕ) → true ≡ given l f n → l′ ≡ counted l → f′ ≡ counted f → Ready l′ f′ n
+given-ready l f l′ f′ n h is is′ =
+    let p = given-tells l f n (sym h) in
+    let whole : 2 * n ≤ length (counted f) = p .1 in
+    let long : length f′ ≡ length (counted f) = ap length is′ in
+    record { legal = subst Legal (sym is) (p .0); whole = omega arith; few = omega (arith, length-take (2 ^ 28) f) }
+
+pub front-few : (old : List ℕ) (len : ℕ) → len ≡ min (length old) (2 ^ 28) → length (take (len - 0) old) ≤ 2 ^ 28
+front-few old len cut = omega (arith, length-take (len - 0) old)
+
+-- ---- the questions, from what counts of the lists
+module _ (l f l′ f′ : List ℕ) (is : l′ ≡ l) (is′ : f′ ≡ f) (n : ℕ) where
+  pub start-list : (r y : ℕ) → y ≡ inFrame (width (sheetOf l′)) 0 (sheetOf l′ .bad) →
+      encode (width (sheetOf l′) + n) 0 (stateClauses (sheetOf l′) f′ n r y) ≡ startList (sheetOf l) f n r
+  start-list r y e =
+      ap (λ (y : ℕ). encode (width (sheetOf l′) + n) 0 (stateClauses (sheetOf l′) f′ n r y)) e ∙ (λ i. startList (sheetOf (is i)) (is′ i) n r)
+
+  pub inclusion-list : (p r x y : ℕ) → x ≡ opposite r → y ≡ inQuestion (width (sheetOf l′)) 1 x →
+      encode (width (sheetOf l′) + n) 0 (stateClauses (sheetOf l′) f′ n p y) ≡ inclusionList (sheetOf l) f n p r
+  inclusion-list p r x y o e =
+      ap (λ (y : ℕ). encode (width (sheetOf l′) + n) 0 (stateClauses (sheetOf l′) f′ n p y)) (e ∙ ap (inQuestion (width (sheetOf l′)) 1) o)
+      ∙ (λ i. inclusionList (sheetOf (is i)) (is′ i) n p r)
+
+  pub path-list : (r k : ℕ) → pathList (sheetOf l′) f′ n r k ≡ pathList (sheetOf l) f n r k
+  path-list r k = (λ i. pathList (sheetOf (is i)) (is′ i) n r k)

@@ -1,16 +1,21 @@
 // Building questions of a sheet and of formulas over its latches, which lie in a lent list of gates.
 ghost use mathlib.Core.Path.{_≡_};
-ghost use mathlib.Core.Bool.{_&&_};
+ghost use mathlib.Core.Bool.{true, _&&_};
 ghost use Prim.Native.Nat.{_+_, _*_, _^_, _<_, _≤_};
 ghost use lib.Dec.{leb};
-ghost use lib.ListN.{length};
+ghost use lib.ListN.{length, take};
+ghost use Rattle.std.specs.Options.{isSome, Cases as BySome};
 ghost use Rattle.lists.specs.Counted.{counted};
 ghost use Rattle.sheet.specs.Sheets.{sheetOf, Legal};
-ghost use Rattle.formula.specs.Formulas.{width};
+ghost use Rattle.sheet.specs.Trip.{Iff};
+ghost use Rattle.formula.specs.Formulas.{width, Formula, Gates};
 ghost use Rattle.formula.specs.Conjunction.{opposite};
 ghost use Rattle.formula.specs.Framing.{inFrame, inQuestion};
-ghost use Rattle.question.specs.Clauses.{stateClauses, firstClauses, secondClauses, pathClauses};
+ghost use Rattle.question.specs.Clauses.{stateClauses, startClauses, firstClauses, secondClauses, pathClauses, inclusionClauses};
+ghost use Rattle.question.specs.Laid.{Lays};
 ghost use Rattle.question.specs.Layout.{encode, startList, pathList, inclusionList, given, posed, posedIf, written};
+ghost use Rattle.question.specs.Meaning.{BadIn-r, BadAfter, Outside};
+ghost use Rattle.question.specs.Questions.{IsQuestion, Satisfiable};
 ghost use Rattle.question.specs.Sizes.{stateClauseCount, stateLiteralCount, firstClauseCount, firstLiteralCount, secondClauseCount, secondLiteralCount};
 ghost use Rattle.question.specs.Writing.{puts, Room, Moved, OperandsFit};
 use crate::gates::formulas_fit;
@@ -230,4 +235,30 @@ fn is_given(sheet: &[u32], formula: &[u32], gates: u32) -> bool
     ensures { λ b. ⌜ b ≡ given (now (sheet .entry)) (now (formula .entry)) gates ⌝ }
 {
     is_legal(sheet) && 2 * gates as usize <= counted_len(formula.len())
+}
+
+// Asks whether a state in `r` is bad. The question goes into `question`, with zeros behind it, and its length is returned.
+// None, with nothing written, for a sheet that is not legal, for a formula list with fewer gates, and if the question does not
+// fit: there is no room, or a literal of a formula leaves 32 bits.
+pub fn start_question(
+    sheet: &[u32],
+    formula: &[u32],
+    gates: u32,
+    r: Literal,
+    question: &mut [u32],
+) -> Option<usize>
+    ensures poses_the_start_question { λ n. ⌜ (n, now (question .exit)) ≡ posedIf (given (now (sheet .entry)) (now (formula .entry)) gates) (startList (sheetOf (counted (now (sheet .entry)))) (counted (now (formula .entry))) gates (r .0)) (now (question .entry)) ⌝ }
+    ensures takes_all_that_fits { λ n. ⌜ (Legal (counted (now (sheet .entry))) → Gates (sheetOf (counted (now (sheet .entry)))) (counted (now (formula .entry))) gates → Formula (sheetOf (counted (now (sheet .entry)))) gates (r .0) → Iff (isSome n ≡ true) (length (startList (sheetOf (counted (now (sheet .entry)))) (counted (now (formula .entry))) gates (r .0)) ≤ length (counted (now (question .entry))))) ⌝ }
+    ensures lays_out_the_clauses { λ n. ⌜ BySome n (Unit {0}) (λ m. Lays (take m (now (question .exit))) (width (sheetOf (counted (now (sheet .entry)))) + gates) 0 (startClauses (sheetOf (counted (now (sheet .entry)))) (counted (now (formula .entry))) gates (r .0))) ⌝ }
+    ensures is_a_question { λ n. ⌜ (Gates (sheetOf (counted (now (sheet .entry)))) (counted (now (formula .entry))) gates → Formula (sheetOf (counted (now (sheet .entry)))) gates (r .0) → BySome n (Unit {0}) (λ m. IsQuestion (take m (now (question .exit))))) ⌝ }
+    ensures asks_for_a_bad_state { λ n. ⌜ (Gates (sheetOf (counted (now (sheet .entry)))) (counted (now (formula .entry))) gates → Formula (sheetOf (counted (now (sheet .entry)))) gates (r .0) → BySome n (Unit {0}) (λ m. Iff (Satisfiable (take m (now (question .exit)))) (BadIn-r (sheetOf (counted (now (sheet .entry)))) (counted (now (formula .entry))) gates (r .0)))) ⌝ }
+{
+    if !is_given(sheet, formula, gates) {
+        return None;
+    }
+    let sheet = counted(sheet);
+    let formula = counted(formula);
+    let bad = bad_in(sheet, 0);
+    let len = counted_len(question.len());
+    pose_state(sheet, formula, gates, r, bad, &mut question[0..len])
 }
