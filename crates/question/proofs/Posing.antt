@@ -1,17 +1,18 @@
 -- What posing a question answers and leaves. Assumes nothing.
-use mathlib.Core.Path.{_≡_, sym, ap, subst, _∙_}
+use mathlib.Core.Path.{_≡_, refl, sym, ap, subst, _∙_}
 use mathlib.Core.Bool.{Bool, true, false, _&&_}
 use mathlib.Core.List.{List, _++_}
 use Prim.Native.Nat.{ℕ, _+_, _-_, _*_, _^_, _≤_, _<_, min}
+use native.Mathlib.Nat.{zero-mul}
 use native.Mathlib.Omega.{arith}
 use borrow.Rule.Slice.PartMut.{postOf}
-use lib.Dec.{leb}
+use lib.Dec.{leb, ltb}
 use lib.ListN.{length, take, drop, length-take}
 use Rattle.std.specs.declared.option.Option.{Option}
 use Rattle.std.specs.declared.option.Option.the-variants.{Some, None}
 use Rattle.std.proofs.shelf.Bits.{mul-le}
 use Rattle.std.proofs.shelf.Lists.{length-append}
-use Rattle.std.proofs.shelf.Tests.{cond-true, cond-false, and-left, and-right, and-from, and-parts, le-leb, lt-leb, leb-true}
+use Rattle.std.proofs.shelf.Tests.{cond-true, cond-false, cond-both, and-left, and-right, and-from, and-parts, le-leb, lt-leb, leb-true}
 use Rattle.lists.specs.Counted.{counted, uncounted}
 use Rattle.lists.proofs.Taken.{take-min, drop-min}
 use Rattle.sheet.specs.Render.{wellFormed}
@@ -158,6 +159,10 @@ given-ready l f l′ f′ n h is is′ =
 
 pub front-few : (old : List ℕ) (len : ℕ) → len ≡ min (length old) (2 ^ 28) → length (take (len - 0) old) ≤ 2 ^ 28
 front-few old len cut = omega (arith, length-take (len - 0) old)
+
+-- with one frame, formulas stand where they are
+pub one-placed : (w x : ℕ) → inQuestion w 1 x ≡ x
+one-placed w x = cond-both (ltb x (2 * w)) x (x + 2 * ((1 - 1) * w)) (λ y. y ≡ x) (λ _. refl) (λ _. omega (arith, zero-mul w))
 
 -- ---- the questions, from what counts of the lists
 module _ (l f l′ f′ : List ℕ) (is : l′ ≡ l) (is′ : f′ ≡ f) (n : ℕ) where

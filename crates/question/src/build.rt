@@ -262,3 +262,53 @@ pub fn start_question(
     let len = counted_len(question.len());
     pose_state(sheet, formula, gates, r, bad, &mut question[0..len])
 }
+
+// Asks whether a bad state is reached from a state in `r` in 1 to `k + 1` steps. The result and the list are as for the start
+// question; None also for a bound past 30.
+pub fn path_question(
+    sheet: &[u32],
+    formula: &[u32],
+    gates: u32,
+    r: Literal,
+    k: u32,
+    question: &mut [u32],
+) -> Option<usize>
+    ensures poses_the_path_question { λ n. ⌜ (n, now (question .exit)) ≡ posedIf (leb k 30 && given (now (sheet .entry)) (now (formula .entry)) gates) (pathList (sheetOf (counted (now (sheet .entry)))) (counted (now (formula .entry))) gates (r .0) k) (now (question .entry)) ⌝ }
+    ensures takes_all_that_fits { λ n. ⌜ (k ≤ 30 → Legal (counted (now (sheet .entry))) → Gates (sheetOf (counted (now (sheet .entry)))) (counted (now (formula .entry))) gates → Formula (sheetOf (counted (now (sheet .entry)))) gates (r .0) → Iff (isSome n ≡ true) (length (pathList (sheetOf (counted (now (sheet .entry)))) (counted (now (formula .entry))) gates (r .0) k) ≤ length (counted (now (question .entry))))) ⌝ }
+    ensures lays_out_the_clauses { λ n. ⌜ BySome n (Unit {0}) (λ m. Lays (take m (now (question .exit))) ((k + 2) * width (sheetOf (counted (now (sheet .entry)))) + gates) (length (firstClauses (sheetOf (counted (now (sheet .entry)))) (counted (now (formula .entry))) gates (r .0) k)) (pathClauses (sheetOf (counted (now (sheet .entry)))) (counted (now (formula .entry))) gates (r .0) k)) ⌝ }
+    ensures is_a_question { λ n. ⌜ (Gates (sheetOf (counted (now (sheet .entry)))) (counted (now (formula .entry))) gates → Formula (sheetOf (counted (now (sheet .entry)))) gates (r .0) → BySome n (Unit {0}) (λ m. IsQuestion (take m (now (question .exit))))) ⌝ }
+    ensures asks_for_a_bad_state_ahead { λ n. ⌜ (Gates (sheetOf (counted (now (sheet .entry)))) (counted (now (formula .entry))) gates → Formula (sheetOf (counted (now (sheet .entry)))) gates (r .0) → BySome n (Unit {0}) (λ m. Iff (Satisfiable (take m (now (question .exit)))) (BadAfter (sheetOf (counted (now (sheet .entry)))) (counted (now (formula .entry))) gates (r .0) k))) ⌝ }
+{
+    if k > MOST_BOUND || !is_given(sheet, formula, gates) {
+        return None;
+    }
+    let sheet = counted(sheet);
+    let formula = counted(formula);
+    let len = counted_len(question.len());
+    pose_path(sheet, formula, gates, r, k, &mut question[0..len])
+}
+
+// Asks whether a state in `p` is outside `r`. The result and the list are as for the start question.
+pub fn inclusion_question(
+    sheet: &[u32],
+    formula: &[u32],
+    gates: u32,
+    p: Literal,
+    r: Literal,
+    question: &mut [u32],
+) -> Option<usize>
+    ensures poses_the_inclusion_question { λ n. ⌜ (n, now (question .exit)) ≡ posedIf (given (now (sheet .entry)) (now (formula .entry)) gates) (inclusionList (sheetOf (counted (now (sheet .entry)))) (counted (now (formula .entry))) gates (p .0) (r .0)) (now (question .entry)) ⌝ }
+    ensures takes_all_that_fits { λ n. ⌜ (Legal (counted (now (sheet .entry))) → Gates (sheetOf (counted (now (sheet .entry)))) (counted (now (formula .entry))) gates → Formula (sheetOf (counted (now (sheet .entry)))) gates (p .0) → Formula (sheetOf (counted (now (sheet .entry)))) gates (r .0) → Iff (isSome n ≡ true) (length (inclusionList (sheetOf (counted (now (sheet .entry)))) (counted (now (formula .entry))) gates (p .0) (r .0)) ≤ length (counted (now (question .entry))))) ⌝ }
+    ensures lays_out_the_clauses { λ n. ⌜ BySome n (Unit {0}) (λ m. Lays (take m (now (question .exit))) (width (sheetOf (counted (now (sheet .entry)))) + gates) 0 (inclusionClauses (sheetOf (counted (now (sheet .entry)))) (counted (now (formula .entry))) gates (p .0) (r .0))) ⌝ }
+    ensures is_a_question { λ n. ⌜ (Gates (sheetOf (counted (now (sheet .entry)))) (counted (now (formula .entry))) gates → Formula (sheetOf (counted (now (sheet .entry)))) gates (p .0) → Formula (sheetOf (counted (now (sheet .entry)))) gates (r .0) → BySome n (Unit {0}) (λ m. IsQuestion (take m (now (question .exit))))) ⌝ }
+    ensures asks_for_a_state_outside { λ n. ⌜ (Gates (sheetOf (counted (now (sheet .entry)))) (counted (now (formula .entry))) gates → Formula (sheetOf (counted (now (sheet .entry)))) gates (p .0) → Formula (sheetOf (counted (now (sheet .entry)))) gates (r .0) → BySome n (Unit {0}) (λ m. Iff (Satisfiable (take m (now (question .exit)))) (Outside (sheetOf (counted (now (sheet .entry)))) (counted (now (formula .entry))) gates (p .0) (r .0)))) ⌝ }
+{
+    if !is_given(sheet, formula, gates) {
+        return None;
+    }
+    let sheet = counted(sheet);
+    let formula = counted(formula);
+    let outside = placed(sheet, 1, r.opposite());
+    let len = counted_len(question.len());
+    pose_state(sheet, formula, gates, p, outside, &mut question[0..len])
+}
