@@ -1,0 +1,6 @@
+pub mod Valued
+pub mod Building
+pub mod Starts
+pub mod Sizes
+pub mod Turns
+pub mod Writing

@@ -1,0 +1,1 @@
+-- Which clause is which, by closed offsets.

@@ -1,0 +1,7 @@
+// Questions: clauses in a lent list of numbers. Reading one, and building the three that are asked of a machine.
+pub mod build;
+mod gates;
+pub mod laws;
+mod pen;
+pub mod read;
+mod unroll;
