@@ -4,12 +4,9 @@ use mathlib.Core.List.{List, []}
 use mathlib.Core.Logic.{_⊎_}
 use Prim.Native.Nat.{ℕ, zero, suc, _+_, _-_, _*_, _/_, _≤_, _<_}
 use lib.ListN.{length}
-use Rattle.std.specs.declared.result.Result.{Result}
-use Rattle.std.specs.declared.result.Result.the-variants.{Err}
-use Rattle.sheet.specs.declared.fault.Fault.{Fault}
 use Rattle.question.specs.Questions.{clauseCount, Mem, Clause}
 use Rattle.answer.specs.Lines.{lineOf}
-use Rattle.answer.specs.Steps.{stepCount, stepOf, refused}
+use Rattle.answer.specs.Steps.{stepCount, stepOf}
 use Rattle.answer.specs.declared.steps.Step.{Step}
 
 -- the pivot stands plain in xs and negated in ys
@@ -65,18 +62,22 @@ pub record Refutes (q t : List ℕ) (m : ℕ) : Type 0 where
   pub room : Room t m (stepCount t) derived
 
 -- another variable than p stands plain in one clause and negated in the other
-pub record Cancels (xs ys : List ℕ) (p : ℕ) : Type 0 where
+pub record Clashes (xs ys : List ℕ) (p : ℕ) : Type 0 where
   pub variable : ℕ
   pub another : variable ≡ p → ⊥
   pub apart : Opposes xs ys variable ⊎ Opposes ys xs variable
 
--- the steps before i are right, and step i would cancel another variable besides its pivot
+-- the step i would join two earlier lines that oppose each other in its pivot, and in another variable too
+pub record Clashes-at (q : List ℕ) (derived : ℕ → List ℕ) (i : ℕ) (s : Step) : Type 0 where
+  pub earlier : ComeBefore q i s
+  pub opposes : Opposes (lineOf q derived (s .first)) (lineOf q derived (s .second)) (s .pivot)
+  pub clashes : Clashes (lineOf q derived (s .first)) (lineOf q derived (s .second)) (s .pivot)
+
+-- the steps before i are right, with a working list of m places, and step i would cancel two variables
 pub record Cancels-two (q t : List ℕ) (m i : ℕ) : Type 0 where
   pub whole : Whole t
   pub among : i < stepCount t
   pub derived : ℕ → List ℕ
   pub before : Makes-all q t i derived
   pub room : 0 < i → Room t m i derived
-  pub earlier : ComeBefore q i (stepOf t i)
-  pub opposes : Opposes (lineOf q derived (stepOf t i .first)) (lineOf q derived (stepOf t i .second)) (stepOf t i .pivot)
-  pub cancels : Cancels (lineOf q derived (stepOf t i .first)) (lineOf q derived (stepOf t i .second)) (stepOf t i .pivot)
+  pub here : Clashes-at q derived i (stepOf t i)
