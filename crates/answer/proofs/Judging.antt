@@ -1,26 +1,25 @@
 -- What the checks of an assignment say. Assumes nothing.
-use mathlib.Core.Path.{_≡_, refl, sym, ap, subst, _∙_}
+use mathlib.Core.Path.{_≡_, refl, sym, ap, _∙_}
 use mathlib.Core.Bool.{Bool, true, false, cond}
 use mathlib.Core.List.{List, [], _∷_}
 use mathlib.Core.Logic.{_⊎_, inl, inr, ⊎-elim}
-use Prim.Native.Nat.{ℕ, zero, suc, _+_, _-_, _^_, _≤_, _<_, min}
+use Prim.Native.Nat.{ℕ, zero, suc, _+_, _-_, _^_, _≤_, _<_}
 use native.Mathlib.Omega.{arith}
 use lib.Dec.{eqb, ltb}
-use lib.ListN.{length, getD, take, drop, length-take, length-drop}
+use lib.ListN.{length, getD, drop, length-take, length-drop}
 use Rattle.std.specs.Orderings.{Decides}
 use Rattle.std.specs.Results.{isOk}
 use Rattle.std.specs.shelf.Lists.{All}
 use Rattle.std.proofs.shelf.Lists.{take-all, drop-more, drop-all}
-use Rattle.std.proofs.shelf.Tests.{cond-both, cond-true, cond-false, lt-ltb, le-ltb, ltb-true, eqb-true, eq-eqb, cases-lt, cases-eq}
+use Rattle.std.proofs.shelf.Tests.{cond-true, cond-false, lt-ltb, le-ltb, ltb-true, eqb-true, eq-eqb, cases-eq}
 use Rattle.std.specs.declared.option.Option.{Option}
 use Rattle.std.specs.declared.option.Option.the-variants.{Some, None}
 use Rattle.std.specs.declared.result.Result.{Result}
-use Rattle.std.specs.declared.result.Result.the-variants.{Ok, Err}
-use Rattle.sheet.specs.Faults.{fault, andThen, demand}
+use Rattle.sheet.specs.Faults.{andThen, demand}
 use Rattle.sheet.specs.declared.fault.Fault.{Fault}
 use Rattle.lists.specs.Counted.{counted}
 use Rattle.signal.specs.Truth.{holds, bitsOf}
-use Rattle.question.specs.Questions.{variableCount, clauseCount, span, clauseOf, Satisfies}
+use Rattle.question.specs.Questions.{variableCount, clauseCount, span, clauseOf}
 use Rattle.answer.specs.Assignments.{firstNonBit, lowestFalse, unlessFound, judged, Satisfying}
 
 -- ---- a list that is cut already, and its parts

@@ -59,13 +59,6 @@ total-same d e (suc i) h =
     let b = ap length (h i (omega arith)) in
     omega arith
 
-pub total-up : (d : ℕ → List ℕ) (i s : ℕ) → i ≤ s → total d i ≤ total d s
-total-up d i zero h = let z : i ≡ 0 = omega arith in rw z (omega arith)
-total-up d i (suc s) h = ⊎-elim
-    (λ (l : i < suc s). let k = total-up d i s (omega arith) in omega arith)
-    (λ (l : suc s ≤ i). let z : i ≡ suc s = omega arith in rw z (omega arith))
-    (cases-lt i (suc s))
-
 -- ---- the working list of n places after some of s steps
 pub record Laid (s n : ℕ) (w : List ℕ) (at : Progress) : Type 0 where
   pub size : length w ≡ n

@@ -1,9 +1,9 @@
--- The rest of each clause after a merge.
-use mathlib.Core.Path.{_≡_, refl, sym, ap, subst, _∙_}
-use mathlib.Core.Bool.{Bool, true, false, not, _&&_, _||_}
-use mathlib.Core.List.{List, [], _∷_, _++_}
-use Prim.Native.Nat.{ℕ, _+_, _*_, _≤_}
-use lib.ListN.{length, take, drop}
+-- The rest of each clause after a merge. Assumes nothing.
+use mathlib.Core.Path.{sym, ap, subst, _∙_}
+use mathlib.Core.Bool.{true, false, _||_}
+use mathlib.Core.List.{List, []}
+use Prim.Native.Nat.{ℕ, _+_, _*_}
+use lib.ListN.{drop}
 use Rattle.std.proofs.shelf.Lists.{append-nil}
 use Rattle.std.specs.declared.option.Option.{Option}
 use Rattle.std.specs.declared.option.Option.the-variants.{Some, None}
@@ -12,7 +12,7 @@ use Rattle.answer.specs.declared.passes.Met.{Met}
 use Rattle.answer.specs.Joint.{union}
 use Rattle.answer.specs.Joint.{has}
 use Rattle.answer.specs.Passes.{Passed, Stuck, Taken, Merged, Gone}
-use Rattle.answer.proofs.Passing.{goes-on, gets-stuck, passed-front, or-none}
+use Rattle.answer.proofs.Passing.{goes-on, gets-stuck, or-none}
 
 module _ (xs ys : List ℕ) (p : ℕ) (t : Tally) (w v : List ℕ) (m : Met) (met : Merged xs ys p t w v (Some m)) where
   pub first-stuck : (v′ : List ℕ) → Taken p (m .tally) true false v v′ (drop (m .i) xs) None → Stuck p t w v′ (union xs ys)

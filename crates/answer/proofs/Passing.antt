@@ -1,15 +1,14 @@
--- A pass over two clauses, from turn to turn.
-use mathlib.Core.Path.{_≡_, refl, sym, ap, subst, _∙_}
-use mathlib.Core.Bool.{Bool, true, false, not, cond, _&&_, _||_}
+-- A pass over two clauses, from turn to turn. Assumes nothing.
+use mathlib.Core.Path.{_≡_, refl, sym, ap, _∙_}
+use mathlib.Core.Bool.{Bool, true, false, _&&_, _||_}
 use mathlib.Core.List.{List, [], _∷_, _++_}
 use mathlib.Core.Logic.{_⊎_, inl, inr, ⊎-elim}
-use Prim.Native.Nat.{ℕ, _+_, _*_, _/_, _≤_, _<_}
+use Prim.Native.Nat.{ℕ, _+_, _≤_, _<_}
 use native.Mathlib.Omega.{arith}
 use lib.ListN.{length, take, drop, getD}
-use lib.Seq.{sets}
 use Rattle.std.proofs.shelf.Lists.{drop-all, drop-more, take-take}
 use Rattle.answer.specs.declared.passes.Tally.{Tally}
-use Rattle.answer.specs.Joint.{union, without, repeats}
+use Rattle.answer.specs.Joint.{union}
 use Rattle.answer.specs.Joint.{has}
 use Rattle.answer.specs.Passes.{Passed, Stuck}
 use Rattle.answer.proofs.Takings.{first-or}

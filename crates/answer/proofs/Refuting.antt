@@ -1,11 +1,11 @@
 -- A run is a derivation, and a derivation with room is a run. Assumes nothing.
 use mathlib.Core.Path.{_≡_, refl, sym, ap, subst, _∙_}
-use mathlib.Core.Bool.{Bool, true, false, cond, not, _&&_}
+use mathlib.Core.Bool.{Bool, true, false}
 use mathlib.Core.List.{List, []}
 use mathlib.Core.Logic.{⊎-elim}
-use Prim.Native.Nat.{ℕ, zero, suc, _+_, _-_, _*_, _≤_, _<_}
+use Prim.Native.Nat.{ℕ, zero, suc, _+_, _-_, _≤_, _<_}
 use native.Mathlib.Omega.{arith}
-use lib.Dec.{ltb, leb, eqb}
+use lib.Dec.{leb, eqb}
 use lib.ListN.{length, take}
 use Rattle.std.proofs.shelf.Lists.{nil-from-length}
 use Rattle.std.proofs.shelf.Tests.{cond-true, cond-false, cond-both, lt-ltb, le-leb, eq-eqb, ltb-true, leb-true, eqb-true, and-from, and-parts, not-from-true, cases-lt}
@@ -14,11 +14,11 @@ use Rattle.std.specs.declared.result.Result.the-variants.{Ok, Err}
 use Rattle.sheet.specs.Faults.{andThen, demand}
 use Rattle.sheet.specs.declared.fault.Fault.{Fault}
 use Rattle.question.specs.Questions.{clauseCount, span, Clause}
-use Rattle.answer.specs.Joint.{opposes, clashing, has}
+use Rattle.answer.specs.Joint.{clashing}
 use Rattle.answer.specs.Lines.{lineOf}
-use Rattle.answer.specs.Steps.{stepCount, stepOf, refused, lineBefore, madeBy, comeBefore, matched, suited, onward, advanced, noted}
+use Rattle.answer.specs.Steps.{stepCount, stepOf, refused, lineBefore, madeBy, comeBefore, suited, onward, advanced, noted}
 use Rattle.answer.specs.Runs.{isWhole, start, opened, finished, run, outcome}
-use Rattle.answer.specs.Derivations.{Resolves, ComeBefore, Makes, Makes-all, Derives, Whole, Room, total, Refutes, Opposes, Clashes, Clashes-at, Cancels-two}
+use Rattle.answer.specs.Derivations.{Resolves, ComeBefore, Makes, Makes-all, Derives, Whole, total, Refutes, Opposes, Clashes, Clashes-at, Cancels-two}
 use Rattle.answer.specs.Layout.{Lays}
 use Rattle.answer.specs.declared.steps.Step.{Step}
 use Rattle.answer.specs.declared.steps.Progress.{Progress}
@@ -26,7 +26,7 @@ use Rattle.answer.proofs.Members.{mem-has}
 use Rattle.answer.proofs.Resolving.{Proper, resolves-from, joint-is, matched-from, line-given, line-derived, lines-proper}
 use Rattle.answer.proofs.Cancelling.{clashing-from}
 use Rattle.answer.proofs.Going.{endAfter, advanced-ok, run-ok, run-err}
-use Rattle.answer.proofs.Laying.{Laid, laid-none, front-same, more, span-same, span-new, laid-more, lays-out, total-next, total-same, total-up}
+use Rattle.answer.proofs.Laying.{Laid, laid-none, front-same, more, span-same, span-new, laid-more, lays-out, total-same}
 
 -- ---- what two ways of naming the derived clauses share
 line-same : (q : List ℕ) (d e : ℕ → List ℕ) (i : ℕ) → ((j : ℕ) → j < i → d j ≡ e j) → (k : ℕ) → k < clauseCount q + i → lineOf q d k ≡ lineOf q e k

@@ -1,19 +1,18 @@
--- One turn of a pass over two clauses.
-use mathlib.Core.Path.{_≡_, refl, sym, ap, subst, _∙_}
+-- One turn of a pass over two clauses. Assumes nothing.
+use mathlib.Core.Path.{_≡_, refl, sym, ap, _∙_}
 use mathlib.Core.Bool.{Bool, true, false, not, cond, _&&_, _||_}
-use mathlib.Core.List.{List, [], _∷_, _++_}
-use mathlib.Core.Logic.{_⊎_, inl, inr, ⊎-elim}
-use Prim.Native.Nat.{ℕ, _+_, _*_, _/_, _≤_, _<_}
+use mathlib.Core.List.{List, [], _∷_}
+use Prim.Native.Nat.{ℕ, _+_, _/_, _<_}
 use native.Mathlib.Numerals.{add-one}
 use native.Mathlib.Omega.{arith}
-use lib.ListN.{length, take, drop, getD, set, length-set}
+use lib.ListN.{length, drop, getD, set, length-set}
 use lib.Seq.{sets}
 use Rattle.std.proofs.shelf.Lists.{drop-more, take-set-le}
-use Rattle.std.proofs.shelf.Tests.{cond-true, cond-false, eq-eqb, ne-eqb}
+use Rattle.std.proofs.shelf.Tests.{cond-false, eq-eqb, ne-eqb}
 use Rattle.answer.specs.declared.passes.Tally.{Tally}
 use Rattle.answer.specs.Joint.{without, repeats}
 use Rattle.answer.specs.Joint.{has}
-use Rattle.answer.specs.Passes.{Took, Passed, Stuck}
+use Rattle.answer.specs.Passes.{Took, Passed}
 
 pub took-none : (xs : List ℕ) (i x : ℕ) → Took xs i i x
 took-none xs i x = λ z. sym (ap (λ b. (not b && has z (x ∷ [])) || has z (drop i xs)) (eq-eqb i i refl))

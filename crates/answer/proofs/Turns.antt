@@ -1,5 +1,5 @@
--- One turn of a merge: what is left of two lists, and their union.
-use mathlib.Core.Path.{_≡_, refl, _∙_}
+-- One turn of a merge: what is left of two lists, and their union. Assumes nothing.
+use mathlib.Core.Path.{_≡_, _∙_}
 use mathlib.Core.List.{List, [], _∷_}
 use Prim.Native.Nat.{ℕ, _+_, _≤_, _<_}
 use lib.ListN.{length, drop, getD}

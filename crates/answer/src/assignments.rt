@@ -5,8 +5,6 @@ ghost use lib.ListN.{length};
 ghost use Rattle.std.specs.Orderings.{Decides};
 ghost use Rattle.std.specs.Results.{isOk};
 ghost use Rattle.lists.specs.Counted.{counted};
-ghost use Rattle.sheet.specs.Faults.{fault};
-ghost use Rattle.sheet.specs.declared.fault.Layer.the-variants.{Assignment};
 ghost use Rattle.signal.specs.Truth.{bitsOf};
 ghost use Rattle.question.specs.Questions.{clauseCount};
 ghost use Rattle.answer.specs.Assignments.{firstNonBit, lowestFalse, unlessFound, judged, Satisfying};

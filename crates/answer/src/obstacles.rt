@@ -1,8 +1,6 @@
 // Why a step that could not be carried out is refused. The step is read again, slowly: this happens once in a refutation.
 ghost use mathlib.Core.Path.{_≡_};
-ghost use mathlib.Core.Bool.{not};
-ghost use Prim.Native.Nat.{_+_, _≤_};
-ghost use lib.ListN.{length};
+ghost use Prim.Native.Nat.{_+_};
 ghost use Rattle.answer.specs.Joint.{clashing, has, opposes};
 ghost use Rattle.answer.specs.Passes.{Gives, blamed};
 ghost use Rattle.answer.specs.Steps.{matched, suited, comeBefore};

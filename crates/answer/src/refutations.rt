@@ -14,7 +14,7 @@ ghost use Rattle.question.specs.Questions.{span, IsQuestion, Satisfiable};
 ghost use Rattle.answer.specs.Derivations.{Derives, Refutes, Cancels-two};
 ghost use Rattle.answer.specs.Layout.{Lays};
 ghost use Rattle.answer.specs.Passes.{passed};
-ghost use Rattle.answer.specs.Runs.{start, opened, run, outcome, verdict, left, checked, Held};
+ghost use Rattle.answer.specs.Runs.{start, run, outcome, verdict, left, checked, Held};
 ghost use Rattle.answer.specs.Steps.{stepCount, stepOf, refused, madeBy, advanced, noted};
 use crate::lines::locate;
 use crate::lines::part;

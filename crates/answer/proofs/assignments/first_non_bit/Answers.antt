@@ -1,5 +1,4 @@
 use borrow.Author.Needs.{needs}
-use mathlib.Core.Path.{sym, _∙_}
 use Rattle.answer.proofs.Judging.{bit-past, bit-not, bit-end}
 use Rattle.answer.proofs.assignments.first_non_bit.Needs as need
 

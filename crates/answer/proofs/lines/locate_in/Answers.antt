@@ -1,4 +1,4 @@
-use mathlib.Core.Path.{refl, sym}
+use mathlib.Core.Path.{refl}
 use native.Mathlib.Omega.{arith}
 use Rattle.answer.proofs.Spans.{span-none, span-cut}
 use Rattle.answer.proofs.lines.locate_in.Needs as need

@@ -1,6 +1,6 @@
 use mathlib.Core.Path.{_≡_}
 use mathlib.Core.Bool.{_||_}
-use Prim.Native.Nat.{_+_, _-_, _*_, _≤_}
+use Prim.Native.Nat.{_+_, _-_, _*_}
 use lib.ListN.{length, take, drop}
 use Rattle.answer.specs.Joint.{union}
 use Rattle.answer.specs.Joint.{has}
