@@ -1,0 +1,5 @@
+pub mod Starting
+pub mod Sound
+pub mod Bounded
+pub mod Theorem
+mod Examples

@@ -1,0 +1,2 @@
+pub mod Procedure
+pub mod Happens
