@@ -51,7 +51,7 @@ returns c =
     let len = c .counted-len-len .result in
     let res = c .pose-state .result in
     let new = c .pose-state .last .question in
-    let list = inclusion-list (counted l) (counted f) (c .counted-sheet .result .now) (c .counted-formula .result .now) (c .counted-sheet .ensures .value) (c .counted-formula .ensures .value) n p r (c .opposite .result .0) (c .placed-outside .result .0) (c .opposite .ensures) (c .placed-outside .ensures) in
+    let list = inclusion-list (counted l) (counted f) (c .counted-sheet .result .now) (c .counted-formula .result .now) (c .counted-sheet .ensures .value) (c .counted-formula .ensures .value) n p r (c .opposite .result .0) (c .placed-outside .result .0) (c .opposite .ensures .is-the-other) (c .placed-outside .ensures) in
     let is = posed-counted (given l f n) (inclusionList (sheetOf (counted l)) (counted f) n p r) old len (sym (c .if-not-is-given .ensures tt)) (c .counted-len-len .ensures) res new (c .pose-state .ensures ∙ ap (λ (q : List ℕ). posed q (take (len - 0) old)) list) in
     record {
       poses-the-inclusion-question = is;
