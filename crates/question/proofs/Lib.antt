@@ -10,3 +10,4 @@ pub mod Frames
 pub mod Singles
 pub mod Paths
 pub mod Sides
+pub mod Numbers

@@ -1,6 +1,6 @@
 -- Every clause of a question is a clause over the question's variables. Assumes nothing.
 use mathlib.Core.List.{List}
-use mathlib.Core.Path.{_≡_, sym, subst}
+use mathlib.Core.Path.{_≡_, subst}
 use Prim.Native.Nat.{ℕ, _+_, _*_, _/_, _≤_, _<_}
 use native.Mathlib.Nat.{zero-mul, one-mul}
 use native.Mathlib.Omega.{arith}
@@ -11,11 +11,12 @@ use Rattle.sheet.specs.Sheets.{Sheet, sheetOf}
 use Rattle.formula.specs.Conjunction.{opposite}
 use Rattle.formula.specs.Formulas.{width, Formula, Gates}
 use Rattle.formula.specs.Framing.{inFrame, inQuestion}
+use Rattle.formula.proofs.Valued.{formula-opposite}
 use Rattle.question.specs.Clauses.{firstClauses, secondClauses, pathClauses}
 use Rattle.question.specs.Meaning.{Proper, Start-proper, Path-proper, Inclusion-proper}
 use Rattle.question.proofs.Ascents.{Rising, path-rises, single-rises}
 use Rattle.question.proofs.Parts.{all-both, single}
-use Rattle.question.proofs.Variables.{Lawful, legal-lawful, formula-opposite, Over, over-mem, NodesOf, FormulaNodes, formula-over, first-over, second-over, single-over}
+use Rattle.question.proofs.Variables.{Lawful, legal-lawful, Over, over-mem, NodesOf, FormulaNodes, formula-over, first-over, second-over, single-over}
 
 pub all-proper : (v : ℕ) (cs : List (List ℕ)) → All Rising cs → All (Over (λ j. j < v)) cs → All (Proper v) cs
 all-proper v =

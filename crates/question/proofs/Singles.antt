@@ -2,24 +2,24 @@
 use mathlib.Core.Bool.{Bool, true, false, not}
 use mathlib.Core.List.{List}
 use mathlib.Core.Path.{_≡_, sym, ap, _∙_}
-use Prim.Native.Nat.{ℕ, _<_}
+use Prim.Native.Nat.{ℕ}
 use native.Mathlib.Omega.{arith}
 use lib.ListN.{replicate, length-replicate}
 use Rattle.std.proofs.shelf.Tests.{not-true}
 use Rattle.sheet.specs.Sheets.{Sheet, sheetOf}
 use Rattle.signal.specs.Truth.{lit}
 use Rattle.machine.specs.Bits.{Bits, bit}
-use Rattle.machine.specs.Runs.{State, Inputs, Frame}
+use Rattle.machine.specs.Runs.{Frame}
 use Rattle.formula.specs.Conjunction.{opposite}
 use Rattle.formula.specs.Formulas.{width, valueAt, nodesAt, Formula, Gates}
 use Rattle.formula.specs.Framing.{inFrame, inQuestion}
+use Rattle.formula.proofs.Valued.{lit-opposite, formula-opposite}
 use Rattle.question.specs.Clauses.{startClauses, inclusionClauses}
 use Rattle.question.specs.Meaning.{AllHold, Solvable, BadIn-r, Outside, frameAt, FrameTells, FormulasTell, StartTells, InclusionTells, Start-asks, Start-tells, Inclusion-asks, Inclusion-tells}
 use Rattle.question.proofs.Frames.{Held, frame-tells, formulas-tell, assigned, assigned-frame, assigned-literal, assigned-formulas, assigned-formula}
 use Rattle.question.proofs.Holding.{unit-tells, unit-from}
-use Rattle.question.proofs.Literals.{lit-opposite}
 use Rattle.question.proofs.Parts.{single, single-parts, single-whole}
-use Rattle.question.proofs.Variables.{Lawful, legal-lawful, formula-opposite}
+use Rattle.question.proofs.Variables.{Lawful, legal-lawful}
 
 module _ (s : Sheet) (lawful : Lawful s) (f : List ℕ) (n : ℕ) (gates : Gates s f n) where
   abbrev w : ℕ
