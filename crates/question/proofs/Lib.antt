@@ -1,4 +1,8 @@
 mod Cutting
+mod Fitting
+mod Turns
+mod Laying
+pub mod Counts
 pub mod Literals
 pub mod Parts
 pub mod Formulae

@@ -1,5 +1,7 @@
 pub mod Questions
 pub mod Clauses
 pub mod Layout
+pub mod Sizes
+pub mod Writing
 pub mod Meaning
 pub mod Offsets
