@@ -11,7 +11,7 @@ pub mod Ascents
 pub mod Propriety
 pub mod Holding
 pub mod Frames
-pub mod Singles
+pub mod States
 pub mod Paths
 pub mod Sides
 pub mod Numbers

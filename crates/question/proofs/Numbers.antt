@@ -15,17 +15,13 @@ use Rattle.sheet.specs.Sheets.{Sheet}
 use Rattle.formula.specs.Conjunction.{opposite}
 use Rattle.formula.specs.Formulas.{width}
 use Rattle.formula.specs.Framing.{inFrame, inQuestion}
-use Rattle.question.specs.Clauses.{gateClauses, frameClauses, latchClauses, linkClauses, formulaGate, formulaClauses, unit, badClauses, firstClauses, secondClauses, pathClauses}
-use Rattle.question.specs.Offsets.{frameSize, linkSize, firstSize, pathSize, frameStart, linkStart, gateNumber, latchNumber, formulaNumber, badNumber, PathNumbers, SingleNumbers, Path-numbers, Start-numbers, Inclusion-numbers}
-use Rattle.question.proofs.Parts.{single}
+use Rattle.question.specs.Clauses.{gateClauses, frameClauses, latchClauses, linkClauses, formulaGate, formulaClauses, unit, badClauses, stateClauses, firstClauses, secondClauses, pathClauses}
+use Rattle.question.specs.Offsets.{frameSize, linkSize, frameStart, linkStart, gateNumber, latchNumber, formulaNumber, badNumber, PathNumbers, StateNumbers, Path-numbers, Start-numbers, Inclusion-numbers}
+use Rattle.question.specs.Sizes.{firstClauseCount, secondClauseCount}
+use Rattle.question.proofs.Counts.{stretch-length, frame-length, link-length, formula-length, state-length, first-length, second-length}
 
 -- ---- stretches of equal parts
 module _ {X : Type 0} (f : ℕ → List X) (c : ℕ) (each : (i : ℕ) → length (f i) ≡ c) where
-  pub length-stretch : (n i : ℕ) → length (stretch f i n) ≡ n * c
-  length-stretch zero i = sym (zero-mul c)
-  length-stretch (suc n) i =
-      omega (arith, length-append (f i) (stretch f (i + 1) n), each i, length-stretch n (i + 1), suc-mul n c)
-
   pub getD-stretch : (n i j e : ℕ) (d : X) → j < n → e < c → getD (stretch f i n) (j * c + e) d ≡ getD (f (i + j)) e d
   getD-stretch zero i j e d h l = absurd (omega arith)
   getD-stretch (suc n) i zero e d h l =
@@ -50,16 +46,6 @@ past xs ys n i j d long at =
 module _ (s : Sheet) where
   abbrev w : ℕ
   w = width s
-
-  -- ---- sizes
-  pub frame-length : (t : ℕ) → length (frameClauses s t) ≡ frameSize s
-  frame-length t = omega (arith, length-stretch (gateClauses s t) 3 (λ g. refl) (s .gates) 0)
-
-  pub link-length : (t : ℕ) → length (linkClauses s t) ≡ linkSize s
-  link-length t = omega (arith, length-stretch (latchClauses s t) 2 (λ i. refl) (s .latches) 0)
-
-  pub formula-length : (m : ℕ) (f : List ℕ) (n : ℕ) → length (formulaClauses s m f n) ≡ 3 * n
-  formula-length m f n = omega (arith, length-stretch (formulaGate s m f) 3 (λ g. refl) n 0)
 
   -- ---- within a part
   gate-in-frame : (t g e : ℕ) → g < s .gates → e < 3 → getD (frameClauses s t) (1 + 3 * g + e) [] ≡ getD (gateClauses s t g) e []
@@ -101,78 +87,60 @@ module _ (s : Sheet) where
     abbrev links : List (List ℕ)
     links = stretch (linkClauses s) 1 k
 
-    pub first-length : length firsts ≡ firstSize s n
-    first-length =
-        omega (
-          arith,
-          length-append (frameClauses s 0) (linkClauses s 0 ++ (formulas ++ own)),
-          length-append (linkClauses s 0) (formulas ++ own),
-          length-append formulas own,
-          frame-length 0,
-          link-length 0,
-          formula-length (k + 2) f n,
-        )
+    firsts-length : length firsts ≡ firstClauseCount s n
+    firsts-length = first-length s f n r k
 
     frames-length : length frames ≡ (k + 1) * frameSize s
-    frames-length = length-stretch (frameClauses s) (frameSize s) frame-length (k + 1) 1
+    frames-length = stretch-length (frameClauses s) (frameSize s) (frame-length s) (k + 1) 1
 
     links-length : length links ≡ k * linkSize s
-    links-length = length-stretch (linkClauses s) (linkSize s) link-length k 1
+    links-length = stretch-length (linkClauses s) (linkSize s) (link-length s) k 1
 
-    pub path-length : length (pathClauses s f n r k) ≡ pathSize s n k
-    path-length =
-        omega (
-          arith,
-          length-append firsts (secondClauses s k),
-          length-append frames (links ++ badClauses s k),
-          length-append links (badClauses s k),
-          first-length,
-          frames-length,
-          links-length,
-        )
+    path-length : length (pathClauses s f n r k) ≡ firstClauseCount s n + secondClauseCount s k
+    path-length = omega (arith, length-append firsts (secondClauses s k), firsts-length, second-length s k)
 
-    in-first : (i : ℕ) → i < firstSize s n → getD (pathClauses s f n r k) i [] ≡ getD firsts i []
-    in-first i h = getD-append-left firsts (secondClauses s k) [] i (omega (arith, first-length))
+    in-first : (i : ℕ) → i < firstClauseCount s n → getD (pathClauses s f n r k) i [] ≡ getD firsts i []
+    in-first i h = getD-append-left firsts (secondClauses s k) [] i (omega (arith, firsts-length))
 
     in-frame : (t e : ℕ) → t ≤ k + 1 → e < frameSize s → getD (pathClauses s f n r k) (frameStart s n t + e) [] ≡ getD (frameClauses s t) e []
     in-frame t e h l =
         ⊎-elim
         (λ (z : t ≡ 0).
-        let at : frameStart s n t + e ≡ e = omega (arith, cond-true (eqb t 0) 0 (firstSize s n + (t - 1) * frameSize s) (eq-eqb t 0 z)) in
+        let at : frameStart s n t + e ≡ e = omega (arith, cond-true (eqb t 0) 0 (firstClauseCount s n + (t - 1) * frameSize s) (eq-eqb t 0 z)) in
         ap (λ (i : ℕ). getD (pathClauses s f n r k) i []) at ∙ in-first e (omega arith)
-        ∙ getD-append-left (frameClauses s 0) (linkClauses s 0 ++ (formulas ++ own)) [] e (omega (arith, frame-length 0))
+        ∙ getD-append-left (frameClauses s 0) (linkClauses s 0 ++ (formulas ++ own)) [] e (omega (arith, frame-length s 0))
         ∙ ap (λ (i : ℕ). getD (frameClauses s i) e []) (sym z))
         (λ (z : t ≡ 0 → ⊥).
-        let at : frameStart s n t + e ≡ firstSize s n + ((t - 1) * frameSize s + e) =
-        omega (arith, cond-false (eqb t 0) 0 (firstSize s n + (t - 1) * frameSize s) (ne-eqb t 0 z)) in
+        let at : frameStart s n t + e ≡ firstClauseCount s n + ((t - 1) * frameSize s + e) =
+        omega (arith, cond-false (eqb t 0) 0 (firstClauseCount s n + (t - 1) * frameSize s) (ne-eqb t 0 z)) in
         let same : 1 + (t - 1) ≡ t = omega arith in
         let low : (t - 1) * frameSize s + e < (k + 1) * frameSize s = omega (arith, mul-add-lt (t - 1) (frameSize s) e (k + 1) (omega arith) l) in
-        past firsts (secondClauses s k) (firstSize s n) ((t - 1) * frameSize s + e) (frameStart s n t + e) [] first-length at
+        past firsts (secondClauses s k) (firstClauseCount s n) ((t - 1) * frameSize s + e) (frameStart s n t + e) [] firsts-length at
         ∙ getD-append-left frames (links ++ badClauses s k) [] ((t - 1) * frameSize s + e) (omega (arith, frames-length))
-        ∙ getD-stretch (frameClauses s) (frameSize s) frame-length (k + 1) 1 (t - 1) e [] (omega arith) l
+        ∙ getD-stretch (frameClauses s) (frameSize s) (frame-length s) (k + 1) 1 (t - 1) e [] (omega arith) l
         ∙ ap (λ (i : ℕ). getD (frameClauses s i) e []) same)
         (cases-eq t 0)
 
     in-link : (t e : ℕ) → t ≤ k → e < linkSize s → getD (pathClauses s f n r k) (linkStart s n k t + e) [] ≡ getD (linkClauses s t) e []
     in-link t e h l =
-        let later : ℕ = firstSize s n + (k + 1) * frameSize s + (t - 1) * linkSize s in
+        let later : ℕ = firstClauseCount s n + (k + 1) * frameSize s + (t - 1) * linkSize s in
         ⊎-elim
         (λ (z : t ≡ 0).
         let at : linkStart s n k t + e ≡ frameSize s + e = omega (arith, cond-true (eqb t 0) (frameSize s) later (eq-eqb t 0 z)) in
         ap (λ (i : ℕ). getD (pathClauses s f n r k) i []) at ∙ in-first (frameSize s + e) (omega arith)
-        ∙ past (frameClauses s 0) (linkClauses s 0 ++ (formulas ++ own)) (frameSize s) e (frameSize s + e) [] (frame-length 0) refl
-        ∙ getD-append-left (linkClauses s 0) (formulas ++ own) [] e (omega (arith, link-length 0))
+        ∙ past (frameClauses s 0) (linkClauses s 0 ++ (formulas ++ own)) (frameSize s) e (frameSize s + e) [] (frame-length s 0) refl
+        ∙ getD-append-left (linkClauses s 0) (formulas ++ own) [] e (omega (arith, link-length s 0))
         ∙ ap (λ (i : ℕ). getD (linkClauses s i) e []) (sym z))
         (λ (z : t ≡ 0 → ⊥).
         let inner : ℕ = (t - 1) * linkSize s + e in
-        let at : linkStart s n k t + e ≡ firstSize s n + ((k + 1) * frameSize s + inner) =
+        let at : linkStart s n k t + e ≡ firstClauseCount s n + ((k + 1) * frameSize s + inner) =
         omega (arith, cond-false (eqb t 0) (frameSize s) later (ne-eqb t 0 z)) in
         let same : 1 + (t - 1) ≡ t = omega arith in
         let low : inner < k * linkSize s = omega (arith, mul-add-lt (t - 1) (linkSize s) e k (omega arith) l) in
-        past firsts (secondClauses s k) (firstSize s n) ((k + 1) * frameSize s + inner) (linkStart s n k t + e) [] first-length at
+        past firsts (secondClauses s k) (firstClauseCount s n) ((k + 1) * frameSize s + inner) (linkStart s n k t + e) [] firsts-length at
         ∙ past frames (links ++ badClauses s k) ((k + 1) * frameSize s) inner ((k + 1) * frameSize s + inner) [] frames-length refl
         ∙ getD-append-left links (badClauses s k) [] inner (omega (arith, links-length))
-        ∙ getD-stretch (linkClauses s) (linkSize s) link-length k 1 (t - 1) e [] (omega arith) l
+        ∙ getD-stretch (linkClauses s) (linkSize s) (link-length s) k 1 (t - 1) e [] (omega arith) l
         ∙ ap (λ (i : ℕ). getD (linkClauses s i) e []) same)
         (cases-eq t 0)
 
@@ -181,13 +149,13 @@ module _ (s : Sheet) where
     in-rest i h =
         let at : frameSize s + linkSize s + i ≡ frameSize s + (linkSize s + i) = omega arith in
         in-first (frameSize s + linkSize s + i) (omega arith)
-        ∙ past (frameClauses s 0) (linkClauses s 0 ++ (formulas ++ own)) (frameSize s) (linkSize s + i) (frameSize s + linkSize s + i) [] (frame-length 0) at
-        ∙ past (linkClauses s 0) (formulas ++ own) (linkSize s) i (linkSize s + i) [] (link-length 0) refl
+        ∙ past (frameClauses s 0) (linkClauses s 0 ++ (formulas ++ own)) (frameSize s) (linkSize s + i) (frameSize s + linkSize s + i) [] (frame-length s 0) at
+        ∙ past (linkClauses s 0) (formulas ++ own) (linkSize s) i (linkSize s + i) [] (link-length s 0) refl
 
     pub path-numbered : PathNumbers s f n r k
     path-numbered =
         record {
-          first-size = first-length;
+          first-size = firsts-length;
           size = path-length;
           constants = λ t h.
               let at : frameStart s n t ≡ frameStart s n t + 0 = omega arith in
@@ -201,14 +169,14 @@ module _ (s : Sheet) where
           formula-gates = λ g e h l.
               let at : formulaNumber s g + e ≡ frameSize s + linkSize s + (3 * g + e) = omega arith in
               ap (λ (i : ℕ). getD (pathClauses s f n r k) i []) at ∙ in-rest (3 * g + e) (omega arith)
-              ∙ getD-append-left formulas own [] (3 * g + e) (omega (arith, formula-length (k + 2) f n)) ∙ gate-in-formulas (k + 2) f n g e h l;
+              ∙ getD-append-left formulas own [] (3 * g + e) (omega (arith, formula-length s (k + 2) f n)) ∙ gate-in-formulas (k + 2) f n g e h l;
           formula =
               let at : 3 * n ≡ 3 * n + 0 = omega arith in
-              in-rest (3 * n) (omega arith) ∙ past formulas own (3 * n) 0 (3 * n) [] (formula-length (k + 2) f n) at;
+              in-rest (3 * n) (omega arith) ∙ past formulas own (3 * n) 0 (3 * n) [] (formula-length s (k + 2) f n) at;
           bad =
-              let at : badNumber s n k ≡ firstSize s n + ((k + 1) * frameSize s + k * linkSize s) = omega arith in
+              let at : badNumber s n k ≡ firstClauseCount s n + ((k + 1) * frameSize s + k * linkSize s) = omega arith in
               let end : k * linkSize s ≡ k * linkSize s + 0 = omega arith in
-              past firsts (secondClauses s k) (firstSize s n) ((k + 1) * frameSize s + k * linkSize s) (badNumber s n k) [] first-length at
+              past firsts (secondClauses s k) (firstClauseCount s n) ((k + 1) * frameSize s + k * linkSize s) (badNumber s n k) [] firsts-length at
               ∙ past frames (links ++ badClauses s k) ((k + 1) * frameSize s) (k * linkSize s) ((k + 1) * frameSize s + k * linkSize s) [] frames-length refl
               ∙ past links (badClauses s k) (k * linkSize s) 0 (k * linkSize s) [] links-length end;
         }
@@ -216,29 +184,29 @@ module _ (s : Sheet) where
   -- ---- a question with one frame
   module _ (f : List ℕ) (n x y : ℕ) where
     abbrev ends : List (List ℕ)
-    ends = (x ∷ []) ∷ (y ∷ []) ∷ []
+    ends = unit s 1 x ++ ((y ∷ []) ∷ [])
 
     abbrev rest : List (List ℕ)
     rest = formulaClauses s 1 f n ++ ends
 
-    in-front : (e : ℕ) → e < frameSize s → getD (single s f n x y) e [] ≡ getD (frameClauses s 0) e []
-    in-front e h = getD-append-left (frameClauses s 0) rest [] e (omega (arith, frame-length 0))
+    in-front : (e : ℕ) → e < frameSize s → getD (stateClauses s f n x y) e [] ≡ getD (frameClauses s 0) e []
+    in-front e h = getD-append-left (frameClauses s 0) rest [] e (omega (arith, frame-length s 0))
 
-    behind : (i j : ℕ) → j ≡ frameSize s + i → getD (single s f n x y) j [] ≡ getD rest i []
-    behind i j at = past (frameClauses s 0) rest (frameSize s) i j [] (frame-length 0) at
+    behind : (i j : ℕ) → j ≡ frameSize s + i → getD (stateClauses s f n x y) j [] ≡ getD rest i []
+    behind i j at = past (frameClauses s 0) rest (frameSize s) i j [] (frame-length s 0) at
 
     at-end : (i : ℕ) → getD rest (3 * n + i) [] ≡ getD ends i []
-    at-end i = past (formulaClauses s 1 f n) ends (3 * n) i (3 * n + i) [] (formula-length 1 f n) refl
+    at-end i = past (formulaClauses s 1 f n) ends (3 * n) i (3 * n + i) [] (formula-length s 1 f n) refl
 
-    pub single-numbered : SingleNumbers s f n x y (single s f n x y)
-    single-numbered =
+    pub state-numbered : StateNumbers s f n x y (stateClauses s f n x y)
+    state-numbered =
         record {
-          size = omega (arith, length-append (frameClauses s 0) rest, length-append (formulaClauses s 1 f n) ends, frame-length 0, formula-length 1 f n);
+          size = state-length s f n x y;
           constant = refl;
           gates = λ g e h l. in-front (1 + 3 * g + e) (omega arith) ∙ gate-in-frame 0 g e h l;
           formula-gates = λ g e h l.
               behind (3 * g + e) (frameSize s + 3 * g + e) (omega arith)
-              ∙ getD-append-left (formulaClauses s 1 f n) ends [] (3 * g + e) (omega (arith, formula-length 1 f n)) ∙ gate-in-formulas 1 f n g e h l;
+              ∙ getD-append-left (formulaClauses s 1 f n) ends [] (3 * g + e) (omega (arith, formula-length s 1 f n)) ∙ gate-in-formulas 1 f n g e h l;
           first = behind (3 * n + 0) (frameSize s + 3 * n) (omega arith) ∙ at-end 0;
           second = behind (3 * n + 1) (frameSize s + 3 * n + 1) (omega arith) ∙ at-end 1;
         }
@@ -247,7 +215,7 @@ pub path-numbers : Path-numbers
 path-numbers = path-numbered
 
 pub start-numbers : Start-numbers
-start-numbers s f n r = single-numbered s f n (inQuestion (width s) 1 r) (inFrame (width s) 0 (s .bad))
+start-numbers s f n r = state-numbered s f n r (inFrame (width s) 0 (s .bad))
 
 pub inclusion-numbers : Inclusion-numbers
-inclusion-numbers s f n p r = single-numbered s f n (inQuestion (width s) 1 p) (inQuestion (width s) 1 (opposite r))
+inclusion-numbers s f n p r = state-numbered s f n p (inQuestion (width s) 1 (opposite r))

@@ -13,11 +13,11 @@ use Rattle.machine.proofs.Values.{Ascends, legal-ascends}
 use Rattle.formula.specs.Conjunction.{opposite}
 use Rattle.formula.specs.Formulas.{width, leftOf, rightOf, Named, Formula, Gates}
 use Rattle.formula.specs.Framing.{inFrame, inQuestion}
-use Rattle.question.specs.Clauses.{andClauses, gateLiteral, latchLiteral, firstClauses, secondClauses}
+use Rattle.question.specs.Clauses.{andClauses, gateLiteral, latchLiteral, stateClauses, firstClauses, secondClauses}
 use Rattle.question.specs.Questions.{Mem}
 use Rattle.question.proofs.Formulae.{named-more}
 use Rattle.question.proofs.Literals.{row-less, opposite-half, framed-half, placed, placed-low, placed-high, posed-half, posed-sign}
-use Rattle.question.proofs.Parts.{stretch-all, single, FrameParts, LinkParts, FormulaParts, single-whole, first-whole, second-whole}
+use Rattle.question.proofs.Parts.{stretch-all, FrameParts, LinkParts, FormulaParts, state-whole, first-whole, second-whole}
 
 -- what a legal sheet is: literals are of nodes, and gates are above their operands
 pub record Lawful (s : Sheet) : Type 0 where
@@ -150,7 +150,7 @@ module _ (Q : ℕ → Type 0) where
             end = end-over k nodes;
           })
 
-      pub single-over : (x y : ℕ) → NodesOf 0 → FormulaNodes 1 n → Q (x / 2) → Q (y / 2) → All (Over Q) (single s f n x y)
-      single-over x y nodes named a b =
-          single-whole (Over Q) s f n x y
+      pub state-over : (x y : ℕ) → NodesOf 0 → FormulaNodes 1 n → Q (inQuestion w 1 x / 2) → Q (y / 2) → All (Over Q) (stateClauses s f n x y)
+      state-over x y nodes named a b =
+          state-whole (Over Q) s f n x y
           (record { frame = frame-over 0 nodes; formulas = gates-over 1 n f (omega arith) gates named; first = (a, tt); second = (b, tt) })

@@ -2,7 +2,7 @@ use Rattle.question.proofs.Numbers.{start-numbers, path-numbers, inclusion-num
 use Rattle.question.proofs.Paths.{path-asks, path-tells}
 use Rattle.question.proofs.Propriety.{start-proper, path-proper, inclusion-proper}
 use Rattle.question.proofs.Sides.{path-sides}
-use Rattle.question.proofs.Singles.{start-asks, start-tells, inclusion-asks, inclusion-tells}
+use Rattle.question.proofs.States.{start-asks, start-tells, inclusion-asks, inclusion-tells}
 use Rattle.question.proofs.laws.laws_hold.Needs as need
 
 pub returns : need.returns
