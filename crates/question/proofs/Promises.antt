@@ -32,7 +32,7 @@ use Rattle.question.proofs.Paths.{path-asks}
 use Rattle.question.proofs.Posing.{given-tells}
 use Rattle.question.proofs.Propriety.{start-proper, path-proper, inclusion-proper}
 use Rattle.question.proofs.Reading.{encode-lays, encode-question}
-use Rattle.question.proofs.Singles.{start-asks, inclusion-asks}
+use Rattle.question.proofs.States.{start-asks, inclusion-asks}
 use Rattle.question.proofs.Variables.{Over}
 
 abbrev Posed : Type 0
