@@ -11,7 +11,7 @@ use Rattle.question.specs.declared.pen.Pen.{Pen}
 use Rattle.question.proofs.Counts.{state-length, state-literals}
 use Rattle.question.proofs.Laying.{written-is}
 use Rattle.question.proofs.Turns.{four-parts}
-use Rattle.question.proofs.build.write_state.Needs as need
+use Rattle.question.proofs.state.write_state.Needs as need
 
 pub returns : need.returns
 returns c =

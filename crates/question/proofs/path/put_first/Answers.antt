@@ -7,7 +7,7 @@ use Rattle.question.specs.Clauses.{frameClauses, linkClauses, formulaClauses, 
 use Rattle.question.specs.Writing.{put}
 use Rattle.question.specs.declared.pen.Pen.{Pen}
 use Rattle.question.proofs.Turns.{four-parts}
-use Rattle.question.proofs.build.put_first.Needs as need
+use Rattle.question.proofs.path.put_first.Needs as need
 
 pub returns : need.returns
 returns c =

@@ -10,7 +10,7 @@ use Rattle.question.specs.declared.pen.Pen.{Pen}
 use Rattle.question.proofs.Counts.{first-length, path-length, path-literals}
 use Rattle.question.proofs.Laying.{written-is}
 use Rattle.question.proofs.Turns.{two-parts}
-use Rattle.question.proofs.build.write_path.Needs as need
+use Rattle.question.proofs.path.write_path.Needs as need
 
 pub returns : need.returns
 returns c =
