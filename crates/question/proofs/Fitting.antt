@@ -1,7 +1,7 @@
 -- Which questions have numbers of 32 bits alone. Assumes nothing.
 use mathlib.Core.Path.{_≡_, refl, sym, ap, subst, _∙_}
 use mathlib.Core.Bool.{Bool, true, false, _&&_}
-use mathlib.Core.List.{List, [], _∷_, _++_, map}
+use mathlib.Core.List.{List, [], _∷_, map}
 use mathlib.Core.Logic.{⊎-elim}
 use Prim.Native.Nat.{ℕ, zero, suc, _+_, _-_, _*_, _/_, _%_, _^_, _≤_, _<_}
 use native.Mathlib.Omega.{arith}
@@ -15,7 +15,7 @@ use Rattle.std.proofs.shelf.Tests.{and-left, and-parts, and-from, ltb-true, lt-
 use Rattle.sheet.specs.Sheets.{Sheet, Legal, sheetOf}
 use Rattle.formula.specs.Formulas.{width, leftOf, rightOf}
 use Rattle.formula.specs.Framing.{inQuestion}
-use Rattle.question.specs.Clauses.{andClauses, formulaGate, stateClauses, pathClauses}
+use Rattle.question.specs.Clauses.{stateClauses, pathClauses}
 use Rattle.question.specs.Layout.{flat, starts, encode, allBelow}
 use Rattle.question.specs.Writing.{OperandsFit}
 use Rattle.question.proofs.Literals.{opposite-half}
