@@ -1,7 +1,7 @@
 -- The literals of every clause ascend. Assumes nothing.
 use mathlib.Core.List.{List, [], _∷_}
-use mathlib.Core.Path.{_≡_, sym, subst, _∙_}
-use Prim.Native.Nat.{ℕ, zero, suc, _+_, _-_, _*_, _/_, _%_, _≤_, _<_}
+use mathlib.Core.Path.{_≡_}
+use Prim.Native.Nat.{ℕ, zero, suc, _+_, _*_, _/_, _%_, _<_}
 use native.Mathlib.Numerals.{add-one}
 use native.Mathlib.Omega.{arith}
 use lib.ListN.{length}
@@ -13,12 +13,12 @@ use Rattle.machine.specs.Values.{gateAt}
 use Rattle.formula.specs.Conjunction.{opposite}
 use Rattle.formula.specs.Formulas.{width, leftOf, rightOf, Gates}
 use Rattle.formula.specs.Framing.{inFrame, inQuestion}
-use Rattle.question.specs.Clauses.{andClauses, gateLiteral, latchLiteral, firstClauses, secondClauses, pathClauses}
-use Rattle.question.specs.Questions.{Mem, Clause}
+use Rattle.question.specs.Clauses.{andClauses, gateLiteral, latchLiteral, stateClauses, pathClauses}
+use Rattle.question.specs.Questions.{Clause}
 use Rattle.question.proofs.Formulae.{named-low}
 use Rattle.question.proofs.Literals.{row-more, opposite-half, placed-above, posed-half, posed-sign}
-use Rattle.question.proofs.Parts.{stretch-all, single, FrameParts, LinkParts, FormulaParts, single-whole, path-whole}
-use Rattle.question.proofs.Variables.{Lawful, Over, over-mem}
+use Rattle.question.proofs.Parts.{stretch-all, FrameParts, LinkParts, FormulaParts, state-whole, path-whole}
+use Rattle.question.proofs.Variables.{Lawful, over-mem}
 
 -- not empty, and literals ascend
 abbrev pub Rising : List ℕ → Type 0
@@ -91,6 +91,6 @@ module _ (s : Sheet) (lawful : Lawful s) where
         (record { frame = frame-rises 0; link = link-rises 0; formulas = gates-rise (k + 2); begin = one-rises (inQuestion w (k + 2) r) })
         (record { frames = λ t _ _. frame-rises t; links = λ t _ _. link-rises t; end = end-rises k })
 
-    pub single-rises : (x y : ℕ) → All Rising (single s f n x y)
-    single-rises x y =
-        single-whole Rising s f n x y (record { frame = frame-rises 0; formulas = gates-rise 1; first = one-rises x; second = one-rises y })
+    pub state-rises : (x y : ℕ) → All Rising (stateClauses s f n x y)
+    state-rises x y =
+        state-whole Rising s f n x y (record { frame = frame-rises 0; formulas = gates-rise 1; first = one-rises (inQuestion w 1 x); second = one-rises y })

@@ -1,7 +1,7 @@
 -- Which questions have numbers of 32 bits alone. Assumes nothing.
 use mathlib.Core.Path.{_≡_, refl, sym, ap, subst, _∙_}
 use mathlib.Core.Bool.{Bool, true, false, _&&_}
-use mathlib.Core.List.{List, [], _∷_, _++_, map}
+use mathlib.Core.List.{List, [], _∷_, map}
 use mathlib.Core.Logic.{⊎-elim}
 use Prim.Native.Nat.{ℕ, zero, suc, _+_, _-_, _*_, _/_, _%_, _^_, _≤_, _<_}
 use native.Mathlib.Omega.{arith}
@@ -15,11 +15,11 @@ use Rattle.std.proofs.shelf.Tests.{and-left, and-parts, and-from, ltb-true, lt-
 use Rattle.sheet.specs.Sheets.{Sheet, Legal, sheetOf}
 use Rattle.formula.specs.Formulas.{width, leftOf, rightOf}
 use Rattle.formula.specs.Framing.{inQuestion}
-use Rattle.question.specs.Clauses.{andClauses, formulaGate, stateClauses, pathClauses}
+use Rattle.question.specs.Clauses.{stateClauses, pathClauses}
 use Rattle.question.specs.Layout.{flat, starts, encode, allBelow}
 use Rattle.question.specs.Writing.{OperandsFit}
 use Rattle.question.proofs.Literals.{opposite-half}
-use Rattle.question.proofs.Parts.{all-parts, FormulaParts, single-parts, single-whole, path-parts, path-whole}
+use Rattle.question.proofs.Parts.{all-parts, FormulaParts, state-parts, state-whole, path-parts, path-whole}
 use Rattle.question.proofs.Variables.{Lawful, legal-lawful, Over, NodesOf, frame-over, link-over, end-over}
 
 -- ---- numbers below m, each after a function h, from place i on
@@ -198,14 +198,14 @@ module _ (l : List ℕ) (legal : Legal l) (f : List ℕ) (n : ℕ) (whole : 2 * 
       let x′ : ℕ = inQuestion (width s) 1 x in
       same-test (allBelow (2 ^ 32) (flat (stateClauses s f n x y))) (formulaFits 1 x)
       (λ h.
-      let p = single-parts (Over Small) s f n x′ y (below-small (stateClauses s f n x y) h) in
+      let p = state-parts (Over Small) s f n x y (below-small (stateClauses s f n x y) h) in
       let first : x′ / 2 < 2 ^ 31 = p .first .0 in
       fitting-from 1 x (record { operands = small-gates s few-nodes 1 (omega arith) f n few-gates (p .formulas); literal = omega arith }))
       (λ h.
       let fit = fitting-tells 1 x h in
       let first : x′ < 2 ^ 32 = fit .literal in
       small-below (stateClauses s f n x y)
-      (single-whole (Over Small) s f n x′ y
+      (state-whole (Over Small) s f n x y
       (record {
         frame = frame-over Small s lawful 0 (nodes-small 0 (omega arith));
         formulas = gates-small s few-nodes 1 (omega arith) f n few-gates (fit .operands);

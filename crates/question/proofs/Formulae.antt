@@ -2,11 +2,11 @@
 use mathlib.Core.Bool.{Bool, false, cond, _&&_}
 use mathlib.Core.List.{List}
 use mathlib.Core.Logic.{inl, inr, ⊎-elim}
-use mathlib.Core.Path.{_≡_, refl, sym, ap, _∙_}
-use Prim.Native.Nat.{ℕ, _+_, _-_, _*_, _/_, _≤_, _<_}
+use mathlib.Core.Path.{_≡_, sym, ap, _∙_}
+use Prim.Native.Nat.{ℕ, _+_, _-_, _/_, _≤_, _<_}
 use native.Mathlib.Omega.{arith}
 use lib.Dec.{ltb}
-use Rattle.std.proofs.shelf.Tests.{cond-true, cond-false, eq-eqb, ne-eqb, lt-ltb, le-ltb}
+use Rattle.std.proofs.shelf.Tests.{cond-true, cond-false, ne-eqb, lt-ltb, le-ltb}
 use Rattle.sheet.specs.Sheets.{Sheet}
 use Rattle.signal.specs.Truth.{lit}
 use Rattle.machine.proofs.Chains.{Climbs, lit-same, both-same, chain-below, chain-gate, chain-only}

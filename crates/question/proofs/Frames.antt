@@ -1,12 +1,12 @@
 -- Frames, links and formula gates whose clauses hold, and the assignment in which they do. Assumes nothing.
 use mathlib.Core.Bool.{Bool, true, false, not, cond, _&&_}
-use mathlib.Core.List.{List, [], _∷_}
+use mathlib.Core.List.{List}
 use mathlib.Core.Path.{_≡_, refl, sym, ap, _∙_}
 use Prim.Native.Nat.{ℕ, _+_, _-_, _*_, _/_, _%_, _≤_, _<_}
 use native.Mathlib.Nat.{zero-mul}
 use native.Mathlib.Omega.{arith}
 use lib.Dec.{ltb}
-use Rattle.std.proofs.shelf.Bits.{mul-add-lt, mul-le, div-mul-add, mod-mul-add}
+use Rattle.std.proofs.shelf.Bits.{mul-add-lt, div-mul-add, mod-mul-add}
 use Rattle.std.proofs.shelf.Counted.{getD-map-counting}
 use Rattle.std.proofs.shelf.Tests.{cond-true, cond-false, lt-ltb, le-ltb, not-true}
 use Rattle.sheet.specs.Sheets.{Sheet}
@@ -20,11 +20,12 @@ use Rattle.machine.proofs.Values.{settled, only-settled}
 use Rattle.formula.specs.Conjunction.{opposite}
 use Rattle.formula.specs.Formulas.{width, leftOf, rightOf, nodesAt, valueAt, Formula, Gates}
 use Rattle.formula.specs.Framing.{inFrame, inQuestion}
+use Rattle.formula.proofs.Valued.{lit-even, lit-opposite}
 use Rattle.question.specs.Clauses.{gateLiteral, latchLiteral}
 use Rattle.question.specs.Meaning.{frameAt, FrameTells, FormulasTell}
 use Rattle.question.proofs.Formulae.{Rooted, nodes-rooted, rooted-value, rooted-like}
 use Rattle.question.proofs.Holding.{unit-tells, unit-from, and-tells, and-from, same-tells, same-from}
-use Rattle.question.proofs.Literals.{row-less, lit-plain, lit-next, lit-opposite, slice, framed-sign, lit-framed, placed-low, placed-high, spread, posed-sign, lit-posed}
+use Rattle.question.proofs.Literals.{row-less, lit-next, slice, lit-framed, placed-low, placed-high, spread, posed-sign, lit-posed}
 use Rattle.question.proofs.Parts.{FrameParts, LinkParts, FormulaParts}
 use Rattle.question.proofs.Variables.{Lawful}
 
@@ -45,10 +46,10 @@ module _ (s : Sheet) (α : ℕ → Bool) where
 
   -- ---- literals of a frame
   own-gate : (t g : ℕ) → lit α (inFrame w t (gateLiteral s g)) ≡ slice w α t (gateAt s g)
-  own-gate t g = lit-framed w α t (gateLiteral s g) ∙ lit-plain (slice w α t) (gateAt s g)
+  own-gate t g = lit-framed w α t (gateLiteral s g) ∙ lit-even (slice w α t) (gateAt s g)
 
   own-latch : (t i : ℕ) → lit α (inFrame w t (latchLiteral s i)) ≡ slice w α t (latchAt s i)
-  own-latch t i = lit-framed w α t (latchLiteral s i) ∙ lit-plain (slice w α t) (latchAt s i)
+  own-latch t i = lit-framed w α t (latchLiteral s i) ∙ lit-even (slice w α t) (latchAt s i)
 
   opposite-framed : (t x : ℕ) → lit α (inFrame w t (opposite x)) ≡ not (lit α (inFrame w t x))
   opposite-framed t x = lit-framed w α t (opposite x) ∙ lit-opposite (slice w α t) x ∙ ap not (sym (lit-framed w α t x))
@@ -66,7 +67,7 @@ module _ (s : Sheet) (α : ℕ → Bool) where
       record {
         constant =
             not-true (slice w α t 0)
-            (ap not (sym (lit-plain (slice w α t) 0)) ∙ sym (lit-next (slice w α t) 0 refl) ∙ sym (lit-framed w α t 1) ∙ unit-tells α (inFrame w t 1) (p .constant));
+            (ap not (sym (lit-even (slice w α t) 0)) ∙ sym (lit-next (slice w α t) 0 refl) ∙ sym (lit-framed w α t 1) ∙ unit-tells α (inFrame w t 1) (p .constant));
         inputs = input-bit t;
         latches = latch-bit t;
         gates = λ g h.
@@ -81,7 +82,7 @@ module _ (s : Sheet) (α : ℕ → Bool) where
       record {
         constant =
             unit-from α (inFrame w t 1)
-            (lit-framed w α t 1 ∙ lit-next (slice w α t) 0 refl ∙ ap not (lit-plain (slice w α t) 0 ∙ none));
+            (lit-framed w α t 1 ∙ lit-next (slice w α t) 0 refl ∙ ap not (lit-even (slice w α t) 0 ∙ none));
         gates = λ g h.
             and-from α (inFrame w t (gateLiteral s g)) (inFrame w t (s .left g)) (inFrame w t (s .right g)) (even-gate t g)
             (own-gate t g ∙ each g h ∙ sym (both-same (lit-framed w α t (s .left g)) (lit-framed w α t (s .right g))));
@@ -108,7 +109,7 @@ module _ (s : Sheet) (α : ℕ → Bool) where
     even-formula g = let same : inQuestion w m (2 * (w + g)) % 2 ≡ 2 * (w + g) % 2 = posed-sign w m (2 * (w + g)) in omega arith
 
     own-formula : (g : ℕ) → lit α (inQuestion w m (2 * (w + g))) ≡ u (w + g)
-    own-formula g = lit-posed w m α (2 * (w + g)) ∙ lit-plain u (w + g)
+    own-formula g = lit-posed w m α (2 * (w + g)) ∙ lit-even u (w + g)
 
     pub gates-tell : FormulaParts (Held α) s m f n → (g : ℕ) → g < n → u (w + g) ≡ (lit u (leftOf f g) && lit u (rightOf f g))
     gates-tell p g h =

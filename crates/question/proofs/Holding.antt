@@ -1,6 +1,6 @@
 -- Clauses that hold, as equations between bits. Assumes nothing.
 use mathlib.Core.Bool.{Bool, true, false, not, _&&_, _||_}
-use mathlib.Core.List.{List, [], _∷_}
+use mathlib.Core.List.{[], _∷_}
 use mathlib.Core.Logic.{⊎-elim}
 use mathlib.Core.Path.{_≡_, refl, sym, ap, subst, _∙_}
 use Prim.Native.Nat.{ℕ, zero, suc, _+_, _%_, _≤_, _<_}
@@ -9,9 +9,10 @@ use Rattle.std.proofs.shelf.Tests.{false≢true, cases-eq, or-cases, or-left, o
 use Rattle.lists.specs.Stretch.{stretch}
 use Rattle.signal.specs.Truth.{lit, holds}
 use Rattle.formula.specs.Conjunction.{opposite}
+use Rattle.formula.proofs.Valued.{lit-opposite}
 use Rattle.question.specs.Clauses.{andClauses}
 use Rattle.question.specs.Meaning.{AllHold}
-use Rattle.question.proofs.Literals.{lit-next, lit-opposite}
+use Rattle.question.proofs.Literals.{lit-next}
 
 -- ---- one literal
 or-none : (b : Bool) → (b || false) ≡ b

@@ -1,7 +1,7 @@
 -- What the pen leaves is the layout. Assumes nothing.
 use mathlib.Core.Path.{_≡_, refl, sym, ap, _∙_}
 use mathlib.Core.List.{List, [], _∷_, _++_}
-use Prim.Native.Nat.{ℕ, suc, _+_, _-_, _≤_, _<_}
+use Prim.Native.Nat.{ℕ, suc, _+_, _-_, _≤_}
 use native.Mathlib.Omega.{arith}
 use lib.ListN.{length, set, take, drop, replicate, length-drop}
 use Rattle.std.proofs.shelf.Lists.{append-assoc, set-at, take-append-drop, length-take-le, length-append, length-push, length-replicate, replicate-append-replicate}

@@ -7,7 +7,7 @@ pub mod Ascents
 pub mod Propriety
 pub mod Holding
 pub mod Frames
-pub mod Singles
+pub mod States
 pub mod Paths
 pub mod Sides
 mod Turns
@@ -17,3 +17,4 @@ mod Fitting
 mod Posing
 pub mod Reading
 mod Promises
+pub mod Numbers

@@ -1,15 +1,16 @@
 -- Literals of a question, and the sheet's and formulas' literals that they stand for. Assumes nothing.
-use mathlib.Core.Bool.{Bool, true, false, not, cond}
+use mathlib.Core.Bool.{Bool, not, cond}
 use mathlib.Core.Logic.{⊎-elim}
 use mathlib.Core.Path.{_≡_, refl, sym, ap, _∙_}
 use Prim.Native.Nat.{ℕ, suc, _+_, _-_, _*_, _/_, _%_, _≤_, _<_}
 use native.Mathlib.Nat.{suc-mul}
 use native.Mathlib.Omega.{arith}
 use lib.Dec.{eqb, ltb}
-use Rattle.std.proofs.shelf.Tests.{cond-true, cond-false, cond-both, eq-eqb, ne-eqb, eqb-true, eqb-false, lt-ltb, le-ltb, cases-eq, cases-lt}
+use Rattle.std.proofs.shelf.Tests.{cond-true, cond-false, cond-both, eq-eqb, ne-eqb, lt-ltb, le-ltb, cases-lt}
 use Rattle.signal.specs.Truth.{lit}
 use Rattle.formula.specs.Conjunction.{opposite}
 use Rattle.formula.specs.Framing.{inFrame, inQuestion}
+use Rattle.formula.proofs.Valued.{opposite-is}
 
 -- ---- rows of w places
 pub row-more : (t w : ℕ) → (t + 1) * w ≡ t * w + w
@@ -24,44 +25,14 @@ pub lit-moved : (α β : ℕ → Bool) (x y : ℕ) → x % 2 ≡ y % 2 → α (x
 lit-moved α β x y sign same =
     ap (λ (n : ℕ). cond (eqb n 0) (α (x / 2)) (not (α (x / 2)))) sign ∙ ap (λ b. cond (eqb (y % 2) 0) b (not b)) same
 
-pub lit-plain : (α : ℕ → Bool) (j : ℕ) → lit α (2 * j) ≡ α j
-lit-plain α j =
-    let sign : (2 * j) % 2 ≡ 0 = omega arith in
-    let half : (2 * j) / 2 ≡ j = omega arith in
-    cond-true _ _ _ (eq-eqb _ _ sign) ∙ ap α half
-
 pub lit-next : (α : ℕ → Bool) (x : ℕ) → x % 2 ≡ 0 → lit α (x + 1) ≡ not (lit α x)
 lit-next α x even =
     let odd : (x + 1) % 2 ≡ 0 → ⊥ = λ e. omega arith in
     let half : (x + 1) / 2 ≡ x / 2 = omega arith in
     cond-false _ _ _ (ne-eqb _ _ odd) ∙ ap (λ (j : ℕ). not (α j)) half ∙ ap not (sym (cond-true _ _ _ (eq-eqb _ _ even)))
 
-not-not : (b : Bool) → not (not b) ≡ b
-not-not true = refl
-not-not false = refl
-
-opposite-odd : (x : ℕ) → x % 2 ≡ 1 → opposite x ≡ x - 1
-opposite-odd x odd = cond-true _ _ _ (eq-eqb _ _ odd)
-
-opposite-even : (x : ℕ) → (x % 2 ≡ 1 → ⊥) → opposite x ≡ x + 1
-opposite-even x even = cond-false _ _ _ (ne-eqb _ _ even)
-
 pub opposite-half : (x : ℕ) → opposite x / 2 ≡ x / 2
-opposite-half x =
-    ⊎-elim
-    (λ (odd : x % 2 ≡ 1). omega (arith, opposite-odd x odd))
-    (λ (even : x % 2 ≡ 1 → ⊥). let zero : x % 2 ≡ 0 = omega arith in omega (arith, opposite-even x even))
-    (cases-eq (x % 2) 1)
-
-pub lit-opposite : (α : ℕ → Bool) (x : ℕ) → lit α (opposite x) ≡ not (lit α x)
-lit-opposite α x =
-    ⊎-elim
-    (λ (odd : x % 2 ≡ 1).
-    let next : x - 1 + 1 ≡ x = omega arith in
-    let even : (x - 1) % 2 ≡ 0 = omega arith in
-    ap (lit α) (opposite-odd x odd) ∙ sym (ap not (ap (lit α) (sym next) ∙ lit-next α (x - 1) even) ∙ not-not (lit α (x - 1))))
-    (λ (even : x % 2 ≡ 1 → ⊥). ap (lit α) (opposite-even x even) ∙ lit-next α x (omega arith))
-    (cases-eq (x % 2) 1)
+opposite-half x = sym (opposite-is x .0)
 
 -- ---- the literals of a frame
 module _ (w : ℕ) where

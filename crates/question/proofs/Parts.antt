@@ -11,7 +11,7 @@ use Rattle.lists.specs.Stretch.{stretch}
 use Rattle.sheet.specs.Sheets.{Sheet}
 use Rattle.formula.specs.Formulas.{width}
 use Rattle.formula.specs.Framing.{inFrame, inQuestion}
-use Rattle.question.specs.Clauses.{gateClauses, frameClauses, latchClauses, linkClauses, formulaGate, formulaClauses, unit, badClauses, firstClauses, secondClauses, pathClauses}
+use Rattle.question.specs.Clauses.{gateClauses, frameClauses, latchClauses, linkClauses, formulaGate, formulaClauses, unit, badClauses, stateClauses, firstClauses, secondClauses, pathClauses}
 
 -- ---- stretches
 module _ {X : Type 0} (P : X → Type 0) where
@@ -36,10 +36,6 @@ module _ {X : Type 0} (P : X → Type 0) where
 pub all-both : {X : Type 0} (P Q R : X → Type 0) → ((x : X) → P x → Q x → R x) → (xs : List X) → All P xs → All Q xs → All R xs
 all-both P Q R join [] p q = tt
 all-both P Q R join (x ∷ xs) p q = (join x (p .0) (q .0), all-both P Q R join xs (p .1) (q .1))
-
--- a question with one frame: two literals stand at its end
-abbrev pub single : Sheet → List ℕ → ℕ → ℕ → ℕ → List (List ℕ)
-single s f n x y = frameClauses s 0 ++ (formulaClauses s 1 f n ++ ((x ∷ []) ∷ (y ∷ []) ∷ []))
 
 -- ---- the parts
 module _ (P : List ℕ → Type 0) (s : Sheet) where
@@ -75,22 +71,24 @@ module _ (P : List ℕ → Type 0) (s : Sheet) where
   formula-whole m f n h = stretch-all P (formulaGate s m f) n 0 (λ g _ l. h g (omega arith))
 
   -- ---- the questions with one frame
-  pub record SingleParts (f : List ℕ) (n x y : ℕ) : Type 0 where
+  pub record StateParts (f : List ℕ) (n x y : ℕ) : Type 0 where
     pub frame : FrameParts 0
     pub formulas : FormulaParts 1 f n
-    pub first : P (x ∷ [])
+    pub first : P (inQuestion (width s) 1 x ∷ [])
     pub second : P (y ∷ [])
 
-  pub single-parts : (f : List ℕ) (n x y : ℕ) → All P (single s f n x y) → SingleParts f n x y
-  single-parts f n x y h =
-      let a = all-parts P (frameClauses s 0) (formulaClauses s 1 f n ++ ((x ∷ []) ∷ (y ∷ []) ∷ [])) h in
-      let b = all-parts P (formulaClauses s 1 f n) ((x ∷ []) ∷ (y ∷ []) ∷ []) (a .1) in
+  pub state-parts : (f : List ℕ) (n x y : ℕ) → All P (stateClauses s f n x y) → StateParts f n x y
+  state-parts f n x y h =
+      let ends : List (List ℕ) = unit s 1 x ++ ((y ∷ []) ∷ []) in
+      let a = all-parts P (frameClauses s 0) (formulaClauses s 1 f n ++ ends) h in
+      let b = all-parts P (formulaClauses s 1 f n) ends (a .1) in
       record { frame = frame-parts 0 (a .0); formulas = formula-parts 1 f n (b .0); first = b .1 .0; second = b .1 .1 .0 }
 
-  pub single-whole : (f : List ℕ) (n x y : ℕ) → SingleParts f n x y → All P (single s f n x y)
-  single-whole f n x y p =
-      all-append P (frameClauses s 0) (formulaClauses s 1 f n ++ ((x ∷ []) ∷ (y ∷ []) ∷ [])) (frame-whole 0 (p .frame))
-      (all-append P (formulaClauses s 1 f n) ((x ∷ []) ∷ (y ∷ []) ∷ []) (formula-whole 1 f n (p .formulas)) (p .first, (p .second, tt)))
+  pub state-whole : (f : List ℕ) (n x y : ℕ) → StateParts f n x y → All P (stateClauses s f n x y)
+  state-whole f n x y p =
+      let ends : List (List ℕ) = unit s 1 x ++ ((y ∷ []) ∷ []) in
+      all-append P (frameClauses s 0) (formulaClauses s 1 f n ++ ends) (frame-whole 0 (p .frame))
+      (all-append P (formulaClauses s 1 f n) ends (formula-whole 1 f n (p .formulas)) (p .first, (p .second, tt)))
 
   -- ---- the path question
   pub record FirstParts (f : List ℕ) (n r k : ℕ) : Type 0 where

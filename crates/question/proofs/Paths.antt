@@ -1,10 +1,9 @@
 -- The path question asks for a bad state after 1 to k + 1 steps. Assumes nothing.
-use mathlib.Core.Bool.{Bool, true}
+use mathlib.Core.Bool.{Bool}
 use mathlib.Core.List.{List, [], _∷_, map}
 use mathlib.Core.Logic.{⊎-elim}
 use mathlib.Core.Path.{_≡_, refl, sym, ap, subst, _∙_}
-use Prim.Native.Nat.{ℕ, zero, suc, _+_, _-_, _/_, _≤_, _<_}
-use native.Mathlib.Numerals.{add-one}
+use Prim.Native.Nat.{ℕ, zero, suc, _+_, _/_, _≤_, _<_}
 use native.Mathlib.Omega.{arith}
 use lib.ListN.{length}
 use Rattle.std.specs.Iters.{counting}
@@ -12,8 +11,7 @@ use Rattle.std.proofs.shelf.Counted.{length-map-counting}
 use Rattle.std.proofs.shelf.Tests.{cases-eq}
 use Rattle.sheet.specs.Sheets.{Sheet, sheetOf}
 use Rattle.signal.specs.Truth.{lit}
-use Rattle.machine.specs.Bits.{bit}
-use Rattle.machine.specs.Runs.{State, Frame, Follows, BadIn, Path, lastFrame, BadPath, Reaches, valueIn}
+use Rattle.machine.specs.Runs.{Frame, Follows, BadIn, Path, lastFrame, valueIn}
 use Rattle.machine.proofs.Steps.{stepped, stepped-follows}
 use Rattle.formula.specs.Formulas.{width, Formula, Gates}
 use Rattle.formula.specs.Framing.{inFrame, inQuestion}

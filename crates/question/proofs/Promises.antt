@@ -7,7 +7,7 @@ use Prim.Native.Nat.{ℕ, zero, suc, _+_, _-_, _*_, _/_, _^_, _≤_, _<_}
 use native.Mathlib.Nat.{one-mul}
 use native.Mathlib.Omega.{arith}
 use lib.Dec.{leb}
-use lib.ListN.{length, getD, take, replicate, length-take}
+use lib.ListN.{length, take, replicate, length-take}
 use Rattle.std.specs.Options.{Cases, isSome}
 use Rattle.std.specs.declared.option.Option.{Option}
 use Rattle.std.specs.declared.option.Option.the-variants.{Some, None}
@@ -20,9 +20,9 @@ use Rattle.lists.specs.Counted.{counted, uncounted}
 use Rattle.sheet.specs.Sheets.{Sheet, Legal, sheetOf}
 use Rattle.sheet.specs.Trip.{Iff}
 use Rattle.sheet.proofs.Legality.{legal-wellFormed}
-use Rattle.formula.specs.Formulas.{width, leftOf, rightOf, Named, Formula, Gates}
+use Rattle.formula.specs.Formulas.{width, rightOf, Formula, Gates}
 use Rattle.question.specs.Clauses.{startClauses, firstClauses, secondClauses, pathClauses, inclusionClauses}
-use Rattle.question.specs.Layout.{flat, encode, startList, pathList, inclusionList, allBelow, given, posed, posedIf}
+use Rattle.question.specs.Layout.{encode, startList, pathList, inclusionList, allBelow, given, posed, posedIf}
 use Rattle.question.specs.Questions.{Mem, IsQuestion, Satisfiable}
 use Rattle.question.specs.Meaning.{Solvable, Proper, BadIn-r, BadAfter, Outside}
 use Rattle.question.specs.Laid.{Lays}
@@ -32,7 +32,7 @@ use Rattle.question.proofs.Paths.{path-asks}
 use Rattle.question.proofs.Posing.{given-tells}
 use Rattle.question.proofs.Propriety.{start-proper, path-proper, inclusion-proper}
 use Rattle.question.proofs.Reading.{encode-lays, encode-question}
-use Rattle.question.proofs.Singles.{start-asks, inclusion-asks}
+use Rattle.question.proofs.States.{start-asks, inclusion-asks}
 use Rattle.question.proofs.Variables.{Over}
 
 abbrev Posed : Type 0

@@ -1,6 +1,6 @@
 -- Every clause of a question is a clause over the question's variables. Assumes nothing.
 use mathlib.Core.List.{List}
-use mathlib.Core.Path.{_≡_, sym, subst}
+use mathlib.Core.Path.{_≡_, subst}
 use Prim.Native.Nat.{ℕ, _+_, _*_, _/_, _≤_, _<_}
 use native.Mathlib.Nat.{zero-mul, one-mul}
 use native.Mathlib.Omega.{arith}
@@ -11,11 +11,12 @@ use Rattle.sheet.specs.Sheets.{Sheet, sheetOf}
 use Rattle.formula.specs.Conjunction.{opposite}
 use Rattle.formula.specs.Formulas.{width, Formula, Gates}
 use Rattle.formula.specs.Framing.{inFrame, inQuestion}
-use Rattle.question.specs.Clauses.{firstClauses, secondClauses, pathClauses}
+use Rattle.formula.proofs.Valued.{formula-opposite}
+use Rattle.question.specs.Clauses.{stateClauses, firstClauses, secondClauses, pathClauses}
 use Rattle.question.specs.Meaning.{Proper, Start-proper, Path-proper, Inclusion-proper}
-use Rattle.question.proofs.Ascents.{Rising, path-rises, single-rises}
-use Rattle.question.proofs.Parts.{all-both, single}
-use Rattle.question.proofs.Variables.{Lawful, legal-lawful, formula-opposite, Over, over-mem, NodesOf, FormulaNodes, formula-over, first-over, second-over, single-over}
+use Rattle.question.proofs.Ascents.{Rising, path-rises, state-rises}
+use Rattle.question.proofs.Parts.{all-both}
+use Rattle.question.proofs.Variables.{Lawful, legal-lawful, Over, over-mem, NodesOf, FormulaNodes, formula-over, first-over, second-over, state-over}
 
 pub all-proper : (v : ℕ) (cs : List (List ℕ)) → All Rising cs → All (Over (λ j. j < v)) cs → All (Proper v) cs
 all-proper v =
@@ -55,12 +56,12 @@ module _ (s : Sheet) (lawful : Lawful s) (f : List ℕ) (n : ℕ) (gates : Gates
       (second-over (Below m) s lawful f n gates k (λ t _ l. nodes-below m t (omega arith))))
 
   -- with one
-  pub single-all-proper : (x y : ℕ) → x / 2 < width s + n → y / 2 < width s + n → All (Proper (width s + n)) (single s f n x y)
-  single-all-proper x y a b =
+  pub state-all-proper : (x y : ℕ) → inQuestion (width s) 1 x / 2 < width s + n → y / 2 < width s + n → All (Proper (width s + n)) (stateClauses s f n x y)
+  state-all-proper x y a b =
       let one : v 1 ≡ width s + n = omega (arith, one-mul (width s)) in
-      subst (λ (k : ℕ). All (Proper k) (single s f n x y)) one
-      (all-proper (v 1) (single s f n x y) (single-rises s lawful f n gates x y)
-      (single-over (Below 1) s lawful f n gates x y (nodes-below 1 0 (omega arith)) (formulas-below 1 (omega arith)) (omega arith) (omega arith)))
+      subst (λ (k : ℕ). All (Proper k) (stateClauses s f n x y)) one
+      (all-proper (v 1) (stateClauses s f n x y) (state-rises s lawful f n gates x y)
+      (state-over (Below 1) s lawful f n gates x y (nodes-below 1 0 (omega arith)) (formulas-below 1 (omega arith)) (omega arith) (omega arith)))
 
   pub formula-low : (x : ℕ) → Formula s n x → inQuestion (width s) 1 x / 2 < width s + n
   formula-low x is = omega (arith, formula-below 1 (omega arith) x is, one-mul (width s))
@@ -69,7 +70,7 @@ pub start-proper : Start-proper
 start-proper l f n r legal gates is =
     let s : Sheet = sheetOf l in
     let lawful = legal-lawful l legal in
-    single-all-proper s lawful f n gates (inQuestion (width s) 1 r) (inFrame (width s) 0 (s .bad)) (formula-low s lawful f n gates r is)
+    state-all-proper s lawful f n gates r (inFrame (width s) 0 (s .bad)) (formula-low s lawful f n gates r is)
     (let low : s .bad / 2 < width s = lawful .bads in omega (arith, zero-mul (width s)))
 
 pub path-proper : Path-proper
@@ -80,5 +81,5 @@ inclusion-proper l f n p r legal gates a b =
     let s : Sheet = sheetOf l in
     let lawful = legal-lawful l legal in
     let other : Formula s n (opposite r) = formula-opposite s n r b in
-    single-all-proper s lawful f n gates (inQuestion (width s) 1 p) (inQuestion (width s) 1 (opposite r))
+    state-all-proper s lawful f n gates p (inQuestion (width s) 1 (opposite r))
     (formula-low s lawful f n gates p a) (formula-low s lawful f n gates (opposite r) other)

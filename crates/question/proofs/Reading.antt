@@ -2,7 +2,7 @@
 use mathlib.Core.Path.{_≡_, refl, sym, ap, subst, _∙_}
 use mathlib.Core.Bool.{true}
 use mathlib.Core.List.{List, [], _∷_, _++_}
-use Prim.Native.Nat.{ℕ, zero, suc, _+_, _-_, _/_, _≤_, _<_}
+use Prim.Native.Nat.{ℕ, zero, suc, _+_, _-_, _≤_, _<_}
 use native.Mathlib.Omega.{arith}
 use lib.ListN.{length, getD, take, drop}
 use Rattle.std.specs.shelf.Lists.{All}
@@ -10,7 +10,7 @@ use Rattle.std.proofs.shelf.Elements.{all-getD, all-from-getD}
 use Rattle.std.proofs.shelf.Lists.{append-assoc, length-append, drop-drop, drop-at, drop-more, take-at, take-all, take-more, append-nil, take-append-drop}
 use Rattle.signal.specs.Truth.{holds}
 use Rattle.question.specs.Layout.{flat, starts, encode}
-use Rattle.question.specs.Questions.{Mem, Clause, clauseOf, IsQuestion}
+use Rattle.question.specs.Questions.{clauseOf, IsQuestion}
 use Rattle.question.specs.Meaning.{Proper}
 use Rattle.question.specs.Laid.{Lays}
 use Rattle.question.proofs.Counts.{flat-append, literals, literals-append}

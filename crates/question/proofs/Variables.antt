@@ -1,7 +1,7 @@
 -- Which variables stand in the clauses of a question. Assumes nothing.
 use mathlib.Core.List.{List, [], _∷_}
-use mathlib.Core.Logic.{_⊎_, inl, inr, ⊎-elim}
-use mathlib.Core.Path.{_≡_, refl, sym, ap, subst, _∙_}
+use mathlib.Core.Logic.{inr, ⊎-elim}
+use mathlib.Core.Path.{_≡_, sym, subst, _∙_}
 use Prim.Native.Nat.{ℕ, _+_, _-_, _*_, _/_, _%_, _≤_, _<_}
 use native.Mathlib.Nat.{zero-mul}
 use native.Mathlib.Omega.{arith}
@@ -13,11 +13,11 @@ use Rattle.machine.proofs.Values.{Ascends, legal-ascends}
 use Rattle.formula.specs.Conjunction.{opposite}
 use Rattle.formula.specs.Formulas.{width, leftOf, rightOf, Named, Formula, Gates}
 use Rattle.formula.specs.Framing.{inFrame, inQuestion}
-use Rattle.question.specs.Clauses.{andClauses, gateLiteral, latchLiteral, firstClauses, secondClauses, pathClauses}
+use Rattle.question.specs.Clauses.{andClauses, gateLiteral, latchLiteral, stateClauses, firstClauses, secondClauses}
 use Rattle.question.specs.Questions.{Mem}
 use Rattle.question.proofs.Formulae.{named-more}
 use Rattle.question.proofs.Literals.{row-less, opposite-half, framed-half, placed, placed-low, placed-high, posed-half, posed-sign}
-use Rattle.question.proofs.Parts.{stretch-all, single, FrameParts, LinkParts, FormulaParts, FirstParts, SecondParts, single-whole, first-whole, second-whole}
+use Rattle.question.proofs.Parts.{stretch-all, FrameParts, LinkParts, FormulaParts, state-whole, first-whole, second-whole}
 
 -- what a legal sheet is: literals are of nodes, and gates are above their operands
 pub record Lawful (s : Sheet) : Type 0 where
@@ -28,9 +28,6 @@ pub record Lawful (s : Sheet) : Type 0 where
 pub legal-lawful : (l : List ℕ) → Legal l → Lawful (sheetOf l)
 legal-lawful l legal =
     record { ascends = legal-ascends l legal; nexts = λ i h. omega (arith, legal .next-literals i h); bads = omega (arith, legal .bad-literal) }
-
-pub formula-opposite : (s : Sheet) (n x : ℕ) → Formula s n x → Formula s n (opposite x)
-formula-opposite s n x h = subst (λ (j : ℕ). (j ≡ 0) ⊎ Named s n j) (sym (opposite-half x)) h
 
 -- every variable of a clause is such a one
 abbrev pub Over : (ℕ → Type 0) → List ℕ → Type 0
@@ -153,7 +150,7 @@ module _ (Q : ℕ → Type 0) where
             end = end-over k nodes;
           })
 
-      pub single-over : (x y : ℕ) → NodesOf 0 → FormulaNodes 1 n → Q (x / 2) → Q (y / 2) → All (Over Q) (single s f n x y)
-      single-over x y nodes named a b =
-          single-whole (Over Q) s f n x y
+      pub state-over : (x y : ℕ) → NodesOf 0 → FormulaNodes 1 n → Q (inQuestion w 1 x / 2) → Q (y / 2) → All (Over Q) (stateClauses s f n x y)
+      state-over x y nodes named a b =
+          state-whole (Over Q) s f n x y
           (record { frame = frame-over 0 nodes; formulas = gates-over 1 n f (omega arith) gates named; first = (a, tt); second = (b, tt) })

@@ -7,7 +7,7 @@ use lib.ListN.{length, replicate}
 use Rattle.std.specs.declared.option.Option.{Option}
 use Rattle.std.specs.declared.option.Option.the-variants.{Some, None}
 use Rattle.lists.specs.Counted.{counted, onCounted}
-use Rattle.sheet.specs.Sheets.{Sheet, sheetOf}
+use Rattle.sheet.specs.Sheets.{Sheet}
 use Rattle.sheet.specs.Render.{wellFormed}
 use Rattle.formula.specs.Formulas.{width}
 use Rattle.question.specs.Clauses.{startClauses, firstClauses, pathClauses, inclusionClauses}

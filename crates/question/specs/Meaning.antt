@@ -2,13 +2,14 @@
 use mathlib.Core.Bool.{Bool, true, false, _&&_, _||_}
 use mathlib.Core.List.{List, map}
 use mathlib.Core.Path.{_≡_}
-use Prim.Native.Nat.{ℕ, _+_, _-_, _*_, _/_, _≤_, _<_}
+use Prim.Native.Nat.{ℕ, _+_, _*_, _/_, _≤_, _<_}
 use lib.Dec.{leb, ltb}
 use lib.ListN.{length}
 use Rattle.std.specs.Iters.{counting}
 use Rattle.std.specs.shelf.Lists.{All}
 use Rattle.std.proofs.shelf.Counted.{length-map-counting}
 use Rattle.sheet.specs.Sheets.{Sheet, Legal, sheetOf}
+use Rattle.sheet.specs.Trip.{Iff}
 use Rattle.signal.specs.Truth.{lit, holds}
 use Rattle.machine.specs.Bits.{Bits, bit}
 use Rattle.machine.specs.Runs.{State, Frame, valueIn, Follows, BadIn, BadState, Reaches}
@@ -40,19 +41,15 @@ BadAfter s f n r k = (c : State s) × In s f n r c × ((j : ℕ) × (1 ≤ j) ×
 abbrev pub Outside : (s : Sheet) → List ℕ → ℕ → ℕ → ℕ → Type 0
 Outside s f n p r = (c : State s) × In s f n p c × (valueAt s f n (bit c) r ≡ false)
 
--- each of two statements follows from the other
-abbrev pub Exactly : Type 0 → Type 0 → Type 0
-Exactly A B = (A → B) × (B → A)
-
 -- a question can be solved exactly if what it asks is so
 abbrev pub StartAsks : Sheet → List ℕ → ℕ → ℕ → Type 0
-StartAsks s f n r = Exactly (Solvable (startClauses s f n r)) (BadIn-r s f n r)
+StartAsks s f n r = Iff (Solvable (startClauses s f n r)) (BadIn-r s f n r)
 
 abbrev pub PathAsks : Sheet → List ℕ → ℕ → ℕ → ℕ → Type 0
-PathAsks s f n r k = Exactly (Solvable (pathClauses s f n r k)) (BadAfter s f n r k)
+PathAsks s f n r k = Iff (Solvable (pathClauses s f n r k)) (BadAfter s f n r k)
 
 abbrev pub InclusionAsks : Sheet → List ℕ → ℕ → ℕ → ℕ → Type 0
-InclusionAsks s f n p r = Exactly (Solvable (inclusionClauses s f n p r)) (Outside s f n p r)
+InclusionAsks s f n p r = Iff (Solvable (inclusionClauses s f n p r)) (Outside s f n p r)
 
 -- ---- reading off
 -- n bits of an assignment, from variable j on

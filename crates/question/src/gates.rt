@@ -19,15 +19,15 @@ use formula::question_literal::QuestionLiteral;
 use sheet::literal::Literal;
 
 // Whether a formula's literal has 32 bits in a question of so many frames.
-pub(crate) fn literal_fits(sheet: &[u32], frames: u32, literal: Literal) -> bool
+fn literal_fits(sheet: &[u32], frames: u32, literal: Literal) -> bool
     requires { ⌜ Legal (now sheet) ⌝ }
     ensures { λ r. ⌜ r ≡ ltb (inQuestion (width (sheetOf (now (sheet .entry)))) frames (literal .0)) (2 ^ 32) ⌝ }
 {
     in_question(literal, frames, node_count(sheet)).is_some()
 }
 
-// Whether all of them have.
-pub(crate) fn all_fit(sheet: &[u32], frames: u32, literals: &[u32]) -> bool
+// Whether each of several literals has.
+fn all_fit(sheet: &[u32], frames: u32, literals: &[u32]) -> bool
     requires { ⌜ Legal (now sheet) ⌝ }
     ensures { λ r. ⌜ r ≡ allBelow (2 ^ 32) (map (inQuestion (width (sheetOf (now (sheet .entry)))) frames) (now (literals .entry))) ⌝ }
 {
@@ -39,7 +39,7 @@ pub(crate) fn all_fit(sheet: &[u32], frames: u32, literals: &[u32]) -> bool
     true
 }
 
-// Whether the operands of all gates have, and a literal.
+// Whether the operands of all gates have, and a further literal.
 pub(crate) fn formulas_fit(
     sheet: &[u32],
     frames: u32,

@@ -2,6 +2,9 @@
 pub mod build;
 mod gates;
 pub mod laws;
+mod path;
 mod pen;
 pub mod read;
+mod size;
+mod state;
 mod unroll;

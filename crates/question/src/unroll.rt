@@ -34,7 +34,7 @@ fn literal_at(sheet: &[u32], place: usize) -> Literal
 }
 
 // A literal of a sheet in one of at most 32 frames, where it always has 32 bits.
-pub(crate) fn framed(sheet: &[u32], t: u32, literal: Literal) -> QuestionLiteral
+fn framed(sheet: &[u32], t: u32, literal: Literal) -> QuestionLiteral
     requires legal { ⌜ Legal (now sheet) ⌝ }
     requires frame { ⌜ t ≤ 31 ⌝ }
     requires node { ⌜ literal .0 / 2 < width (sheetOf (now sheet)) ⌝ }
@@ -93,23 +93,13 @@ fn put_latch(question: &mut [u32], pen: Pen, sheet: &[u32], t: u32, i: u32) -> P
     ensures moved { λ r. ⌜ Moved pen r 2 4 ⌝ }
 {
     let next = literal_at(sheet, 4 + 2 * i as usize);
-    let plain = Literal::from_number(2 * (1 + sheet[0] + i));
-    let pen = put_clause(
-        question,
-        pen,
-        &[
-            framed(sheet, t, next),
-            framed(sheet, t + 1, plain.opposite()),
-        ],
-    );
-    put_clause(
-        question,
-        pen,
-        &[
-            framed(sheet, t, next.opposite()),
-            framed(sheet, t + 1, plain),
-        ],
-    )
+    let latch = Literal::from_number(2 * (1 + sheet[0] + i));
+    let is_next = framed(sheet, t, next);
+    let not_next = framed(sheet, t, next.opposite());
+    let is_set = framed(sheet, t + 1, latch);
+    let not_set = framed(sheet, t + 1, latch.opposite());
+    let pen = put_clause(question, pen, &[is_next, not_set]);
+    put_clause(question, pen, &[not_next, is_set])
 }
 
 // Link `t`: each latch has in frame `t + 1` the value of its `next` in frame `t`.

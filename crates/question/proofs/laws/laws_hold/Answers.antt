@@ -1,7 +1,8 @@
+use Rattle.question.proofs.Numbers.{start-numbers, path-numbers, inclusion-numbers}
 use Rattle.question.proofs.Paths.{path-asks, path-tells}
 use Rattle.question.proofs.Propriety.{start-proper, path-proper, inclusion-proper}
 use Rattle.question.proofs.Sides.{path-sides}
-use Rattle.question.proofs.Singles.{start-asks, start-tells, inclusion-asks, inclusion-tells}
+use Rattle.question.proofs.States.{start-asks, start-tells, inclusion-asks, inclusion-tells}
 use Rattle.question.proofs.laws.laws_hold.Needs as need
 
 pub returns : need.returns
@@ -17,4 +18,7 @@ returns c =
       path-clauses-are-proper = path-proper;
       inclusion-clauses-are-proper = inclusion-proper;
       path-parts-have-their-variables = path-sides;
+      start-clauses-have-numbers = start-numbers;
+      path-clauses-have-numbers = path-numbers;
+      inclusion-clauses-have-numbers = inclusion-numbers;
     }

@@ -2,7 +2,7 @@ use mathlib.Core.Path.{sym}
 use native.Mathlib.Omega.{arith}
 use Rattle.question.proofs.Fitting.{fitting-tells}
 use Rattle.question.proofs.Posing.{state-short, state-wide, state-posed}
-use Rattle.question.proofs.build.pose_state.Needs as need
+use Rattle.question.proofs.state.pose_state.Needs as need
 
 pub returns-then-question-size : need.returns-then-question-size
 returns-then-question-size c =

@@ -3,7 +3,7 @@ use Prim.Native.Nat.{_+_}
 use native.Mathlib.Omega.{arith}
 use Rattle.question.proofs.Fitting.{fitting-tells}
 use Rattle.question.proofs.Posing.{path-short, path-wide, path-posed}
-use Rattle.question.proofs.build.pose_path.Needs as need
+use Rattle.question.proofs.path.pose_path.Needs as need
 
 pub returns-then-question-clauses : need.returns-then-question-clauses
 returns-then-question-clauses c =

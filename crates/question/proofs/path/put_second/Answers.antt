@@ -6,7 +6,7 @@ use Rattle.sheet.specs.Sheets.{Sheet, sheetOf}
 use Rattle.question.specs.Clauses.{frameClauses, linkClauses, badClauses}
 use Rattle.question.specs.declared.pen.Pen.{Pen}
 use Rattle.question.proofs.Turns.{three-parts}
-use Rattle.question.proofs.build.put_second.Needs as need
+use Rattle.question.proofs.path.put_second.Needs as need
 
 pub returns : need.returns
 returns c =

@@ -1,5 +1,5 @@
 use mathlib.Core.List.{List}
-use mathlib.Core.Path.{_≡_, sym, ap, _∙_}
+use mathlib.Core.Path.{sym, ap, _∙_}
 use Prim.Native.Nat.{ℕ, _+_, _*_}
 use native.Mathlib.Omega.{arith}
 use lib.ListN.{length}
@@ -10,7 +10,7 @@ use Rattle.question.specs.declared.pen.Pen.{Pen}
 use Rattle.question.proofs.Counts.{first-length, path-length, path-literals}
 use Rattle.question.proofs.Laying.{written-is}
 use Rattle.question.proofs.Turns.{two-parts}
-use Rattle.question.proofs.build.write_path.Needs as need
+use Rattle.question.proofs.path.write_path.Needs as need
 
 pub returns : need.returns
 returns c =

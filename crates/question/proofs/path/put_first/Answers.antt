@@ -1,5 +1,5 @@
 use mathlib.Core.List.{List, [], _∷_}
-use mathlib.Core.Path.{_≡_, ap, _∙_}
+use mathlib.Core.Path.{ap, _∙_}
 use Prim.Native.Nat.{ℕ, _+_}
 use native.Mathlib.Omega.{arith}
 use Rattle.sheet.specs.Sheets.{Sheet, sheetOf}
@@ -7,7 +7,7 @@ use Rattle.question.specs.Clauses.{frameClauses, linkClauses, formulaClauses, 
 use Rattle.question.specs.Writing.{put}
 use Rattle.question.specs.declared.pen.Pen.{Pen}
 use Rattle.question.proofs.Turns.{four-parts}
-use Rattle.question.proofs.build.put_first.Needs as need
+use Rattle.question.proofs.path.put_first.Needs as need
 
 pub returns : need.returns
 returns c =

@@ -2,24 +2,24 @@
 use mathlib.Core.Bool.{Bool, true, false, not}
 use mathlib.Core.List.{List}
 use mathlib.Core.Path.{_≡_, sym, ap, _∙_}
-use Prim.Native.Nat.{ℕ, _<_}
+use Prim.Native.Nat.{ℕ}
 use native.Mathlib.Omega.{arith}
 use lib.ListN.{replicate, length-replicate}
 use Rattle.std.proofs.shelf.Tests.{not-true}
 use Rattle.sheet.specs.Sheets.{Sheet, sheetOf}
 use Rattle.signal.specs.Truth.{lit}
 use Rattle.machine.specs.Bits.{Bits, bit}
-use Rattle.machine.specs.Runs.{State, Inputs, Frame}
+use Rattle.machine.specs.Runs.{Frame}
 use Rattle.formula.specs.Conjunction.{opposite}
 use Rattle.formula.specs.Formulas.{width, valueAt, nodesAt, Formula, Gates}
 use Rattle.formula.specs.Framing.{inFrame, inQuestion}
-use Rattle.question.specs.Clauses.{startClauses, inclusionClauses}
+use Rattle.formula.proofs.Valued.{lit-opposite, formula-opposite}
+use Rattle.question.specs.Clauses.{stateClauses, startClauses, inclusionClauses}
 use Rattle.question.specs.Meaning.{AllHold, Solvable, BadIn-r, Outside, frameAt, FrameTells, FormulasTell, StartTells, InclusionTells, Start-asks, Start-tells, Inclusion-asks, Inclusion-tells}
 use Rattle.question.proofs.Frames.{Held, frame-tells, formulas-tell, assigned, assigned-frame, assigned-literal, assigned-formulas, assigned-formula}
 use Rattle.question.proofs.Holding.{unit-tells, unit-from}
-use Rattle.question.proofs.Literals.{lit-opposite}
-use Rattle.question.proofs.Parts.{single, single-parts, single-whole}
-use Rattle.question.proofs.Variables.{Lawful, legal-lawful, formula-opposite}
+use Rattle.question.proofs.Parts.{state-parts, state-whole}
+use Rattle.question.proofs.Variables.{Lawful, legal-lawful}
 
 module _ (s : Sheet) (lawful : Lawful s) (f : List ℕ) (n : ℕ) (gates : Gates s f n) where
   abbrev w : ℕ
@@ -29,16 +29,16 @@ module _ (s : Sheet) (lawful : Lawful s) (f : List ℕ) (n : ℕ) (gates : Gates
   record Told (x y : ℕ) (α : ℕ → Bool) : Type 0 where
     literals : FrameTells s α 0
     formulas : FormulasTell s f n 1 α
-    first : lit α x ≡ true
+    first : lit α (inQuestion w 1 x) ≡ true
     second : lit α y ≡ true
 
-  told : (x y : ℕ) (α : ℕ → Bool) → AllHold α (single s f n x y) → Told x y α
+  told : (x y : ℕ) (α : ℕ → Bool) → AllHold α (stateClauses s f n x y) → Told x y α
   told x y α h =
-      let p = single-parts (Held α) s f n x y h in
+      let p = state-parts (Held α) s f n x y h in
       record {
         literals = frame-tells s lawful α 0 (p .frame);
         formulas = formulas-tell s α f n 1 gates (p .frame) (p .formulas);
-        first = unit-tells α x (p .first);
+        first = unit-tells α (inQuestion w 1 x) (p .first);
         second = unit-tells α y (p .second);
       }
 
@@ -47,13 +47,13 @@ module _ (s : Sheet) (lawful : Lawful s) (f : List ℕ) (n : ℕ) (gates : Gates
     abbrev α : ℕ → Bool
     α = assigned s lawful f n 1 gates (omega arith) (λ t. frame)
 
-    satisfied : (x y : ℕ) → lit α x ≡ true → lit α y ≡ true → AllHold α (single s f n x y)
+    satisfied : (x y : ℕ) → lit α (inQuestion w 1 x) ≡ true → lit α y ≡ true → AllHold α (stateClauses s f n x y)
     satisfied x y a b =
-        single-whole (Held α) s f n x y
+        state-whole (Held α) s f n x y
         (record {
           frame = assigned-frame s lawful f n 1 gates (omega arith) (λ t. frame) 0 (omega arith);
           formulas = assigned-formulas s lawful f n 1 gates (omega arith) (λ t. frame);
-          first = unit-from α x a;
+          first = unit-from α (inQuestion w 1 x) a;
           second = unit-from α y b;
         })
 
@@ -65,7 +65,7 @@ module _ (s : Sheet) (lawful : Lawful s) (f : List ℕ) (n : ℕ) (gates : Gates
 
   pub start-told : (r : ℕ) → Formula s n r → (α : ℕ → Bool) → AllHold α (startClauses s f n r) → StartTells s f n r α
   start-told r is α h =
-      let t = told (inQuestion w 1 r) (inFrame w 0 (s .bad)) α h in
+      let t = told r (inFrame w 0 (s .bad)) α h in
       record {
         literals = t .literals;
         formulas = t .formulas;
@@ -77,13 +77,13 @@ module _ (s : Sheet) (lawful : Lawful s) (f : List ℕ) (n : ℕ) (gates : Gates
   start-solved r is (c, in-r, (x, bad)) =
       let frame : Frame s = record { state = c; inputs = x } in (
         α frame,
-        satisfied frame (inQuestion w 1 r) (inFrame w 0 (s .bad)) (formula-is frame r is ∙ in-r)
+        satisfied frame r (inFrame w 0 (s .bad)) (formula-is frame r is ∙ in-r)
             (assigned-literal s lawful f n 1 gates (omega arith) (λ t. frame) 0 (s .bad) (omega arith) (lawful .bads) ∙ bad),
       )
 
   pub inclusion-told : (p r : ℕ) → Formula s n p → Formula s n r → (α : ℕ → Bool) → AllHold α (inclusionClauses s f n p r) → InclusionTells s f n p r α
   inclusion-told p r a b α h =
-      let t = told (inQuestion w 1 p) (inQuestion w 1 (opposite r)) α h in
+      let t = told p (inQuestion w 1 (opposite r)) α h in
       let c : ℕ → Bool = bit (frameAt s α 0 .state) in
       record {
         literals = t .literals;
@@ -100,7 +100,7 @@ module _ (s : Sheet) (lawful : Lawful s) (f : List ℕ) (n : ℕ) (gates : Gates
   inclusion-solved p r a b (c, in-p, outside) =
       let frame : Frame s = record { state = c; inputs = no-input (s .inputs) } in (
         α frame,
-        satisfied frame (inQuestion w 1 p) (inQuestion w 1 (opposite r)) (formula-is frame p a ∙ in-p)
+        satisfied frame p (inQuestion w 1 (opposite r)) (formula-is frame p a ∙ in-p)
             (formula-is frame (opposite r) (formula-opposite s n r b) ∙ other-value (bit c) r ∙ ap not outside),
       )
 

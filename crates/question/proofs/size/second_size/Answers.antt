@@ -3,7 +3,7 @@ use Prim.Native.Nat.{_+_, _*_}
 use native.Mathlib.Omega.{arith}
 use Rattle.std.proofs.shelf.Bits.{mul-le}
 use Rattle.sheet.specs.Sheets.{latchCount, gateCount}
-use Rattle.question.proofs.build.second_size.Needs as need
+use Rattle.question.proofs.size.second_size.Needs as need
 
 pub returns : need.returns
 returns c =

@@ -1,5 +1,5 @@
 use mathlib.Core.List.{List, [], _∷_}
-use mathlib.Core.Path.{_≡_, refl, sym, ap, _∙_}
+use mathlib.Core.Path.{refl, sym, ap, _∙_}
 use Prim.Native.Nat.{ℕ, _+_}
 use native.Mathlib.Omega.{arith}
 use lib.ListN.{length}
@@ -11,7 +11,7 @@ use Rattle.question.specs.declared.pen.Pen.{Pen}
 use Rattle.question.proofs.Counts.{state-length, state-literals}
 use Rattle.question.proofs.Laying.{written-is}
 use Rattle.question.proofs.Turns.{four-parts}
-use Rattle.question.proofs.build.write_state.Needs as need
+use Rattle.question.proofs.state.write_state.Needs as need
 
 pub returns : need.returns
 returns c =
