@@ -1,6 +1,8 @@
 // Worked cases, run and compared.
 
 #[cfg(test)]
+mod asking;
+#[cfg(test)]
 mod reading;
 #[cfg(test)]
 mod stepping;

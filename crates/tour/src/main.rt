@@ -1,6 +1,15 @@
 // A walk through one real task, with all that is done printed: a new hoop driver beside an older needle board.
+use formula::start::Started;
+use formula::start::start_formula;
 use machine::simulate::simulate_bits;
+use question::build::inclusion_question;
+use question::build::path_question;
+use question::build::start_question;
+use question::read::clause_count;
+use question::read::first_count;
+use question::read::variable_count;
 use sheet::fault::Fault;
+use sheet::literal::Literal;
 use sheet::read::read;
 use sheet::write::write;
 use std::error::AnyError;
@@ -12,6 +21,10 @@ const SHEET_PLACES: usize = 452;
 const TEXT_BYTES: usize = 4096;
 
 const MOST_LATCHES: usize = 24;
+
+const FORMULA_PLACES: usize = 64;
+
+const QUESTION_PLACES: usize = 1024;
 
 // What the driver does at each step: announces a needle number, has a value to send, and the value is a thread weight. This
 // is the order of signals in which the old board takes a weight for a needle number.
@@ -91,6 +104,62 @@ fn run(rt: &LibcRuntime, list: &[u32; SHEET_PLACES]) -> Result<(), AnyError> {
     simulate(rt, list, &mut state[0..count])
 }
 
+// Says how large a question is, if there was room for it.
+fn show_question(
+    rt: &LibcRuntime,
+    kind: &str,
+    question: &[u32],
+    len: Option<usize>,
+) -> Result<(), AnyError> {
+    if len.is_none() {
+        return Err("no room for a question".into());
+    }
+    let variables = variable_count(question);
+    let clauses = clause_count(question);
+    let first = first_count(question);
+    println!(
+        rt,
+        "  {kind}: {variables} variables, {clauses} clauses, {first} of the first part"
+    )?;
+    Ok(())
+}
+
+// The three questions: about the start states R, and about P, the states in which no weight has been taken for a number.
+fn ask(rt: &LibcRuntime, list: &[u32], formula: &[u32], start: Started) -> Result<(), AnyError> {
+    let gates = start.count;
+    let r = start.literal;
+    let p = Literal::from_number(11);
+    let mut question = [0; QUESTION_PLACES];
+    let len = start_question(list, formula, gates, r, &mut question);
+    show_question(rt, "start question, is a start state bad", &question, len)?;
+    let len = path_question(list, formula, gates, r, 0, &mut question);
+    show_question(
+        rt,
+        "path question at bound 0, is a bad state one step away",
+        &question,
+        len,
+    )?;
+    let len = inclusion_question(list, formula, gates, p, r, &mut question);
+    show_question(
+        rt,
+        "inclusion question, is a state with no wrong number no start state",
+        &question,
+        len,
+    )
+}
+
+// The start formula, and the questions that begin with it.
+fn pose(rt: &LibcRuntime, list: &[u32]) -> Result<(), AnyError> {
+    let mut formula = [0; FORMULA_PLACES];
+    let Some(start) = start_formula(list, &mut formula) else {
+        return Err("no room for the start formula".into());
+    };
+    let literal = start.literal.number();
+    let gates = start.count;
+    println!(rt, "  start formula: literal {literal}, {gates} gates")?;
+    ask(rt, list, &formula, start)
+}
+
 fn walk(rt: &LibcRuntime, name: &str, latches: &str) -> Result<(), AnyError> {
     let text = fs::read(rt, name)?;
     let mut list = [0; SHEET_PLACES];
@@ -107,7 +176,8 @@ fn walk(rt: &LibcRuntime, name: &str, latches: &str) -> Result<(), AnyError> {
     show_numbers(rt, &list[0..places])?;
     write_back(rt, &list, &text)?;
     println!(rt, "  inputs: announce, value, weight; latches: {latches}")?;
-    run(rt, &list)
+    run(rt, &list)?;
+    pose(rt, &list)
 }
 
 fn main(rt: LibcRuntime) -> Result<(), AnyError> {
