@@ -44,7 +44,7 @@ lineOf-inv p t l h =
     ∙ ap (λ (l : List ℕ × List ℕ). l .0 ++ (10 ∷ l .1)) (ok-same _ _ (q .1))
 
 -- what the parts of a line came from
-spaced-inv : (s : List ℕ) → 0 < length (spaced s) → s ≡ 32 ∷ spaced s
+pub spaced-inv : (s : List ℕ) → 0 < length (spaced s) → s ≡ 32 ∷ spaced s
 spaced-inv [] h = absurd (omega arith)
 spaced-inv (x ∷ s) h =
     ⊎-elim
@@ -53,7 +53,7 @@ spaced-inv (x ∷ s) h =
     (cases-eq x 32)
 
 -- one part, and then what begins with the next space
-further-inv : (s : List ℕ) → 0 < length (former s) → s ≡ 32 ∷ (former s ++ further s)
+pub further-inv : (s : List ℕ) → 0 < length (former s) → s ≡ 32 ∷ (former s ++ further s)
 further-inv s a =
     let t = spaced s in
     let k = upTo 32 t in

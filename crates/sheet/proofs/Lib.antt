@@ -12,3 +12,7 @@ mod Joins
 mod Written
 mod ReadSteps
 pub mod ReadFirst
+mod ReadNumbers
+mod ReadWrong
+mod ReadOnce
+pub mod ReadReasons

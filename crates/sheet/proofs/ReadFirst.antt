@@ -30,30 +30,30 @@ use Rattle.sheet.proofs.Again.{lines-read}
 use Rattle.sheet.proofs.ReadSteps.{Free, Departs, Lined, err-same, step, Placed, lined-step}
 
 -- what a line gives, read by itself
-abbrev contentsIn : ℕ → ℕ → ℕ → Result (ℕ × ℕ × ℕ) Fault
+abbrev pub contentsIn : ℕ → ℕ → ℕ → Result (ℕ × ℕ × ℕ) Fault
 contentsIn i n m = demand (leb i 24 && (leb 1 n && (leb n 24 && leb m 200))) (refusal 15 1) (Ok (i, n, m))
 
-abbrev contentsBy : List ℕ × List ℕ × List ℕ → Result (ℕ × ℕ × ℕ) Fault
+abbrev pub contentsBy : List ℕ × List ℕ × List ℕ → Result (ℕ × ℕ × ℕ) Fault
 contentsBy s =
     andThen (numberOf 1 (s .0)) (λ i. andThen (numberOf 1 (s .1)) (λ n. andThen (numberOf 1 (s .2)) (λ m. contentsIn i n m)))
 
-abbrev contentsOn : List ℕ → Result (ℕ × ℕ × ℕ) Fault
+abbrev pub contentsOn : List ℕ → Result (ℕ × ℕ × ℕ) Fault
 contentsOn x = andThen (given (triplesIf 99 x) (refusal 13 1)) contentsBy
 
-abbrev pairIn : Due → ℕ → ℕ → ℕ → ℕ → ℕ → Result (ℕ × ℕ) Fault
+abbrev pub pairIn : Due → ℕ → ℕ → ℕ → ℕ → ℕ → Result (ℕ × ℕ) Fault
 pairIn d most own p a b =
     demand (inRange d most a b) (refusal 15 p) (demand (ordered d own a b) (refusal 16 p) (Ok (a, b)))
 
-abbrev pairBy : Due → ℕ → ℕ → ℕ → List ℕ × List ℕ → Result (ℕ × ℕ) Fault
+abbrev pub pairBy : Due → ℕ → ℕ → ℕ → List ℕ × List ℕ → Result (ℕ × ℕ) Fault
 pairBy d most own p s = andThen (numberOf p (s .0)) (λ a. andThen (numberOf p (s .1)) (λ b. pairIn d most own p a b))
 
-abbrev pairOn : Due → ℕ → ℕ → ℕ → List ℕ → Result (ℕ × ℕ) Fault
+abbrev pub pairOn : Due → ℕ → ℕ → ℕ → List ℕ → Result (ℕ × ℕ) Fault
 pairOn d most own p x = andThen (given (partsIf (letter d) x) (refusal 13 p)) (pairBy d most own p)
 
-abbrev badIn : ℕ → ℕ → ℕ → Result ℕ Fault
+abbrev pub badIn : ℕ → ℕ → ℕ → Result ℕ Fault
 badIn most p a = demand (leb a most) (refusal 15 p) (Ok a)
 
-abbrev badOn : ℕ → ℕ → List ℕ → Result ℕ Fault
+abbrev pub badOn : ℕ → ℕ → List ℕ → Result ℕ Fault
 badOn most p x = andThen (given (partIf 98 x) (refusal 13 p)) (λ s. andThen (numberOf p s) (badIn most p))
 
 -- with what follows the line put to it, that is what the format reads
@@ -115,6 +115,20 @@ then-made (Err e) mk k = refl
 as-step : {V Y Z : Type 0} (r : Result (List ℕ × List ℕ) Fault) (f : List ℕ × List ℕ → Result Y Fault) (one : List ℕ → Result V Fault) (mk : List ℕ → V → Y) (k : Y → Result Z Fault) → ((l : List ℕ × List ℕ) → f l ≡ andThen (one (l .0)) (λ v. Ok (mk (l .1) v))) → andThen (andThen r f) k ≡ andThen r (λ l. andThen (one (l .0)) (λ v. k (mk (l .1) v)))
 as-step (Ok l) f one mk k h = ap (λ q. andThen q k) (h l) ∙ then-made (one (l .0)) (mk (l .1)) k
 as-step (Err e) f one mk k h = refl
+
+-- the lines of two numbers, the line of the bad literal and the whole text, each read by its first line
+pub pairs-are-step : {Y : Type 0} (n : ℕ) (d : Due) (most own : ℕ) (before : List ℕ) (p : ℕ) (k : List ℕ × List ℕ → Result Y Fault) (t : List ℕ) → andThen (readPairs (suc n) d most own before p t) k ≡ step p (pairOn d most own p) (λ v r. andThen (readPairs n d most (own + 1) (before ++ (v .0 ∷ v .1 ∷ [])) (p + 1) r) k) t
+pairs-are-step n d most own before p k t =
+    let rest : ℕ × ℕ × List ℕ → Result (List ℕ × List ℕ) Fault = λ r. readPairs n d most (own + 1) (before ++ (r .0 ∷ r .1 ∷ [])) (p + 1) (r .2) in
+    then-assoc (readPair d most own p t) rest k
+    ∙ as-step (lineOf p t) (pairFrom d most own p) (pairOn d most own p) (λ r v. (v .0, v .1, r)) (λ y. andThen (rest y) k) (pair-one d most own p)
+
+pub bad-is-step : {Y : Type 0} (most p : ℕ) (k : ℕ × List ℕ → Result Y Fault) (t : List ℕ) → andThen (readBad most p t) k ≡ step p (badOn most p) (λ a r. k (a, r)) t
+bad-is-step most p k t = as-step (lineOf p t) (badFrom most p) (badOn most p) (λ r v. (v, r)) k (bad-one most p)
+
+pub lines-are-step : (t : List ℕ) → parseLines t ≡ step 1 contentsOn (λ c r. parseRest (c .0) (c .1) (c .2) r) t
+lines-are-step t =
+    as-step (lineOf 1 t) contentsFrom contentsOn (λ r v. (v .0, v .1, v .2, r)) (λ c. parseRest (c .0) (c .1) (c .2) (c .3)) contents-one
 
 lined-as : {Y : Type 0} (j : ℕ) (F G : List ℕ → Result Y Fault) → ((t : List ℕ) → F t ≡ G t) → Lined j G → Lined j F
 lined-as j F G h g = let same : G ≡ F = λ i t. sym (h t) i in subst (Lined j) same g
@@ -185,13 +199,9 @@ lined-pairs zero d most own before p k big h next =
     let here : p + 0 ≡ p = omega arith in
     subst (λ j. Lined j (λ t. k (before, t))) here (next before)
 lined-pairs {Y = Y} (suc n) d most own before p k big h next =
-    let rest : ℕ × ℕ × List ℕ → Result (List ℕ × List ℕ) Fault = λ r. readPairs n d most (own + 1) (before ++ (r .0 ∷ r .1 ∷ [])) (p + 1) (r .2) in
-    let go : ℕ × ℕ → List ℕ → Result Y Fault = λ v r. andThen (rest (v .0, v .1, r)) k in
+    let go : ℕ × ℕ → List ℕ → Result Y Fault = λ v r. andThen (readPairs n d most (own + 1) (before ++ (v .0 ∷ v .1 ∷ [])) (p + 1) r) k in
     let on : p + suc n ≡ p + 1 + n = omega arith in
-    lined-as p _ (step p (pairOn d most own p) go)
-    (λ t.
-    then-assoc (readPair d most own p t) rest k
-    ∙ as-step (lineOf p t) (pairFrom d most own p) (pairOn d most own p) (λ r v. (v .0, v .1, r)) (λ y. andThen (rest y) k) (pair-one d most own p))
+    lined-as p _ (step p (pairOn d most own p) go) (pairs-are-step n d most own before p k)
     (lined-step p (pairOn d most own p) go (plain d) (plainPair d) (plain-free d) (plain-right d most own p big h) (pair-placed d most own p)
     (λ x v is. lined-pairs n d most (own + 1) (before ++ (v .0 ∷ v .1 ∷ [])) (p + 1) k big (above-more d own h) (λ ys. subst (λ j. Lined j (λ t. k (ys, t))) on (next ys))))
 
@@ -199,7 +209,7 @@ lined-pairs {Y = Y} (suc n) d most own before p k big h next =
 lined-bad : {Y : Type 0} (most p : ℕ) (k : ℕ × List ℕ → Result Y Fault) → ((a : ℕ) → Lined (p + 1) (λ t. k (a, t))) → Lined p (λ t. andThen (readBad most p t) k)
 lined-bad most p k next =
     lined-as p _ (step p (badOn most p) (λ a r. k (a, r)))
-    (λ t. as-step (lineOf p t) (badFrom most p) (badOn most p) (λ r v. (v, r)) k (bad-one most p))
+    (bad-is-step most p k)
     (lined-step p (badOn most p) (λ a r. k (a, r)) (98 ∷ 32 ∷ 48 ∷ []) 0 refl (cond-true _ _ _ (le-leb 0 most (omega arith))) (bad-placed most p) (λ x v is. next v))
 
 -- nothing follows
@@ -236,14 +246,14 @@ lined-last : (j p : ℕ) (y : List ℕ) → p ≡ j → Lined j (nothing p y)
 lined-last j p y at = record { text = []; gives = y; accepted = refl; departs = nothing-departs j p y at }
 
 -- all lines
-lined-rest : (i n m : ℕ) → 1 ≤ n → Lined 2 (parseRest i n m)
+pub lined-rest : (i n m : ℕ) → 1 ≤ n → Lined 2 (parseRest i n m)
 lined-rest i n m some =
     let most = mostLiteral (i + n + m) in
     lined-pairs n OfLatch most (1 + i) [] 2 (latchesOf i n m) (omega arith) tt
     (λ ls. lined-pairs m OfGate most (1 + i + n) ls (2 + n) (gatesOf i n m) (omega arith) (omega arith)
     (λ gs. lined-bad most (2 + n + m) (lastOf i n m gs) (λ a. lined-last (2 + n + m + 1) (3 + n + m) (i ∷ n ∷ m ∷ a ∷ gs) (omega arith))))
 
-some-latch : (x : List ℕ) (c : ℕ × ℕ × ℕ) → contentsOn x ≡ Ok c → 1 ≤ c .1
+pub some-latch : (x : List ℕ) (c : ℕ × ℕ × ℕ) → contentsOn x ≡ Ok c → 1 ≤ c .1
 some-latch x c h =
     let s₁ = andThen-inv (given (triplesIf 99 x) (refusal 13 1)) _ c h in
     let s = s₁ .0 in
@@ -261,7 +271,7 @@ some-latch x c h =
 lined-all : Lined 1 parseLines
 lined-all =
     lined-as 1 parseLines (step 1 contentsOn (λ c r. parseRest (c .0) (c .1) (c .2) r))
-    (λ t. as-step (lineOf 1 t) contentsFrom contentsOn (λ r v. (v .0, v .1, v .2, r)) (λ c. parseRest (c .0) (c .1) (c .2) (c .3)) contents-one)
+    lines-are-step
     (lined-step 1 contentsOn (λ c r. parseRest (c .0) (c .1) (c .2) r) (99 ∷ 32 ∷ 48 ∷ 32 ∷ 49 ∷ 32 ∷ 48 ∷ []) (0, 1, 0) refl refl contents-placed
     (λ x c is. lined-rest (c .0) (c .1) (c .2) (some-latch x c is)))
 
@@ -272,7 +282,7 @@ legal-of u l h =
     let same = append-nil l in
     (wellFormed-legal l (subst (λ k. wellFormed k ≡ true) same (r .formed)), sym (r .text) ∙ ap textOf same)
 
-lines-of : (l : List ℕ) → Legal l → parseLines (textOf l) ≡ Ok (take (sizeOf l) l)
+pub lines-of : (l : List ℕ) → Legal l → parseLines (textOf l) ≡ Ok (take (sizeOf l) l)
 lines-of l h =
     demand-inv (leb (length (textOf l)) 4096) (refusal 11 0) (parseLines (textOf l)) _ (there l (legal-wellFormed l h)) .1
 

@@ -23,13 +23,13 @@ abbrev pub Free : List ℕ → Type 0
 Free x = upTo 10 x ≡ length x
 
 -- a text with a line that has an end
-record Ended (t : List ℕ) : Type 0 where
-  line : List ℕ
-  rest : List ℕ
-  free : Free line
-  is : t ≡ line ++ (10 ∷ rest)
+pub record Ended (t : List ℕ) : Type 0 where
+  pub line : List ℕ
+  pub rest : List ℕ
+  pub free : Free line
+  pub is : t ≡ line ++ (10 ∷ rest)
 
-split : (t : List ℕ) → Free t ⊎ Ended t
+pub split : (t : List ℕ) → Free t ⊎ Ended t
 split [] = inl refl
 split (y ∷ t) =
     ⊎-elim
@@ -42,7 +42,7 @@ split (y ∷ t) =
     (split t))
     (cases-eq y 10)
 
-clear-of : (x : List ℕ) → Free x → Clear 10 x
+pub clear-of : (x : List ℕ) → Free x → Clear 10 x
 clear-of [] f = tt
 clear-of (y ∷ x) f =
     ⊎-elim
@@ -50,7 +50,7 @@ clear-of (y ∷ x) f =
     (λ ne. let on : upTo 10 (y ∷ x) ≡ suc (upTo 10 x) = cond-false _ _ _ (ne-eqb y 10 ne) in (ne, clear-of x (omega arith)))
     (cases-eq y 10)
 
-upTo-end : (x r : List ℕ) → Free x → upTo 10 (x ++ (10 ∷ r)) ≡ length x
+pub upTo-end : (x r : List ℕ) → Free x → upTo 10 (x ++ (10 ∷ r)) ≡ length x
 upTo-end x r f = upTo-clear 10 x r (clear-of x f)
 
 length-end : (x r : List ℕ) → length (x ++ (10 ∷ r)) ≡ length x + suc (length r)
@@ -61,11 +61,11 @@ take-end : (x r : List ℕ) → take (length x + 1) (x ++ (10 ∷ r)) ≡ x ++ (
 take-end x r =
     ap (take (length x + 1)) (sym (append-assoc x (10 ∷ []) r)) ∙ take-at (x ++ (10 ∷ [])) r (length x + 1) (length-append x (10 ∷ []))
 
-drop-end : (x r : List ℕ) → drop (length x + 1) (x ++ (10 ∷ r)) ≡ r
+pub drop-end : (x r : List ℕ) → drop (length x + 1) (x ++ (10 ∷ r)) ≡ r
 drop-end x r =
     ap (drop (length x + 1)) (sym (append-assoc x (10 ∷ []) r)) ∙ drop-at (x ++ (10 ∷ [])) r (length x + 1) (length-append x (10 ∷ []))
 
-first-ended : (q : ℕ) (x r : List ℕ) → Free x → firstLines (suc q) (x ++ (10 ∷ r)) ≡ x ++ (10 ∷ firstLines q r)
+pub first-ended : (q : ℕ) (x r : List ℕ) → Free x → firstLines (suc q) (x ++ (10 ∷ r)) ≡ x ++ (10 ∷ firstLines q r)
 first-ended q x r f =
     let t = x ++ (10 ∷ r) in
     ap (λ k. take (k + 1) t ++ firstLines q (drop (k + 1) t)) (upTo-end x r f)
@@ -76,7 +76,7 @@ first-none : (q : ℕ) → firstLines q [] ≡ []
 first-none zero = refl
 first-none (suc q) = first-none q
 
-first-open : (q : ℕ) (t : List ℕ) → Free t → firstLines (suc q) t ≡ t
+pub first-open : (q : ℕ) (t : List ℕ) → Free t → firstLines (suc q) t ≡ t
 first-open q t f =
     let front = take-all (upTo 10 t + 1) t (omega arith) in
     let rest = drop-all (upTo 10 t + 1) t (omega arith) in
@@ -86,7 +86,7 @@ first-open q t f =
 open-not : (t x r : List ℕ) → Free t → Free x → t ≡ x ++ (10 ∷ r) → ⊥
 open-not t x r f g e = omega (arith, ap length e, ap (upTo 10) e, upTo-end x r g, length-end x r)
 
-same-end : (x y r s : List ℕ) → Free x → Free y → x ++ (10 ∷ r) ≡ y ++ (10 ∷ s) → (x ≡ y) × (r ≡ s)
+pub same-end : (x y r s : List ℕ) → Free x → Free y → x ++ (10 ∷ r) ≡ y ++ (10 ∷ s) → (x ≡ y) × (r ≡ s)
 same-end x y r s f g e =
     let long : length y ≡ length x = sym (upTo-end y s g) ∙ sym (ap (upTo 10) e) ∙ upTo-end x r f in
     let front : x ≡ y = sym (take-at x (10 ∷ r) (length x) refl) ∙ ap (take (length x)) e ∙ take-at y (10 ∷ s) (length x) long in
@@ -94,12 +94,12 @@ same-end x y r s f g e =
     (front, cc)
 
 -- texts that begin alike
-record Aligned (q : ℕ) (x r u : List ℕ) : Type 0 where
-  rest : List ℕ
-  is : u ≡ x ++ (10 ∷ rest)
-  same : firstLines q r ≡ firstLines q rest
+pub record Aligned (q : ℕ) (x r u : List ℕ) : Type 0 where
+  pub rest : List ℕ
+  pub is : u ≡ x ++ (10 ∷ rest)
+  pub same : firstLines q r ≡ firstLines q rest
 
-align : (q : ℕ) (x r u : List ℕ) → Free x → firstLines (suc q) (x ++ (10 ∷ r)) ≡ firstLines (suc q) u → Aligned q x r u
+pub align : (q : ℕ) (x r u : List ℕ) → Free x → firstLines (suc q) (x ++ (10 ∷ r)) ≡ firstLines (suc q) u → Aligned q x r u
 align q x r u f e =
     let whole : x ++ (10 ∷ firstLines q r) ≡ firstLines (suc q) u = sym (first-ended q x r f) ∙ e in
     ⊎-elim
@@ -148,16 +148,16 @@ Placed j (Ok x) = Unit {0}
 Placed j (Err e) = e .place ≡ j
 
 module _ {V Y : Type 0} (j : ℕ) (one : List ℕ → Result V Fault) (go : V → List ℕ → Result Y Fault) where
-  step-open : (t : List ℕ) → Free t → step j one go t ≡ Err (refusal 12 j)
+  pub step-open : (t : List ℕ) → Free t → step j one go t ≡ Err (refusal 12 j)
   step-open t f =
       ap (λ l. andThen l (λ l. andThen (one (l .0)) (λ v. go v (l .1)))) (cond-false _ _ _ (le-ltb (upTo 10 t) (length t) (omega arith)))
 
-  step-ended : (x r : List ℕ) → Free x → step j one go (x ++ (10 ∷ r)) ≡ andThen (one x) (λ v. go v r)
+  pub step-ended : (x r : List ℕ) → Free x → step j one go (x ++ (10 ∷ r)) ≡ andThen (one x) (λ v. go v r)
   step-ended x r f =
       ap (λ l. andThen l (λ l. andThen (one (l .0)) (λ v. go v (l .1)))) (lineOf-text j x r (clear-of x f))
 
   -- the same at a line that gives v, and at one that is refused
-  step-on : (x r : List ℕ) (v : V) → Free x → one x ≡ Ok v → step j one go (x ++ (10 ∷ r)) ≡ go v r
+  pub step-on : (x r : List ℕ) (v : V) → Free x → one x ≡ Ok v → step j one go (x ++ (10 ∷ r)) ≡ go v r
   step-on x r v f is = step-ended x r f ∙ ap (λ o. andThen o (λ v. go v r)) is
 
   step-stop : (x r : List ℕ) (e : Fault) → Free x → one x ≡ Err e → step j one go (x ++ (10 ∷ r)) ≡ Err e

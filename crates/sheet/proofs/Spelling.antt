@@ -64,6 +64,7 @@ digit-inv low b h = let p = and-parts (leb low b) (leb b 57) h in (leb-true _ _ 
 pub record Spelled (s : List ℕ) (n : ℕ) : Type 0 where
   pub is : digits n ≡ s
   pub some : 0 < length s
+  pub small : n ≤ 999
 
 pub spelled-inv : (s : List ℕ) (n : ℕ) → spelled s ≡ Some n → Spelled s n
 spelled-inv [] n h = absurd (none-not n h)
@@ -72,7 +73,7 @@ spelled-inv (a ∷ []) n h =
     let d = digit-inv 48 a (p .0) in
     let v = p .1 in
     let one : 48 + n % 10 ≡ a = omega arith in
-    record { is = digits-one n (omega arith) ∙ ap (λ x. x ∷ []) one; some = omega arith }
+    record { is = digits-one n (omega arith) ∙ ap (λ x. x ∷ []) one; some = omega arith; small = omega arith }
 spelled-inv (a ∷ b ∷ []) n h =
     let p = some-cond (digitFrom 49 a && digitFrom 48 b) n ((a - 48) * 10 + (b - 48)) (sym h) in
     let q = and-parts (digitFrom 49 a) (digitFrom 48 b) (p .0) in
@@ -81,7 +82,7 @@ spelled-inv (a ∷ b ∷ []) n h =
     let v = p .1 in
     let ten : 48 + n / 10 % 10 ≡ a = omega arith in
     let one : 48 + n % 10 ≡ b = omega arith in
-    record { is = digits-two n (omega arith) (omega arith) ∙ (λ i. ten i ∷ one i ∷ []); some = omega arith }
+    record { is = digits-two n (omega arith) (omega arith) ∙ (λ i. ten i ∷ one i ∷ []); some = omega arith; small = omega arith }
 spelled-inv (a ∷ b ∷ c ∷ []) n h =
     let p = some-cond (digitFrom 49 a && (digitFrom 48 b && digitFrom 48 c)) n ((a - 48) * 100 + (b - 48) * 10 + (c - 48)) (sym h) in
     let q = and-parts (digitFrom 49 a) (digitFrom 48 b && digitFrom 48 c) (p .0) in
@@ -95,5 +96,5 @@ spelled-inv (a ∷ b ∷ c ∷ []) n h =
     let hundred : 48 + n / 100 % 10 ≡ a = omega arith in
     let ten : 48 + n / 10 % 10 ≡ b = omega arith in
     let one : 48 + n % 10 ≡ c = omega arith in
-    record { is = digits-three n (omega arith) ∙ (λ i. hundred i ∷ ten i ∷ one i ∷ []); some = omega arith }
+    record { is = digits-three n (omega arith) ∙ (λ i. hundred i ∷ ten i ∷ one i ∷ []); some = omega arith; small = omega arith }
 spelled-inv (a ∷ b ∷ c ∷ d ∷ s) n h = absurd (none-not n h)

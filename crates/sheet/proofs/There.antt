@@ -22,7 +22,7 @@ use Rattle.sheet.proofs.Legality.{Fits, fits-parts, pairFits}
 use Rattle.sheet.proofs.Spelling.{Clear, digits-clear, digits-few, spelled-digits}
 use Rattle.sheet.proofs.Stages.{contentsIf, contentsOf, contentsFrom, pairIf, pairOf, pairFrom, badIf, badFrom, lastOf, gatesOf, latchesOf}
 
-clear-append : (c : ℕ) (s t : List ℕ) → Clear c s → Clear c t → Clear c (s ++ t)
+pub clear-append : (c : ℕ) (s t : List ℕ) → Clear c s → Clear c t → Clear c (s ++ t)
 clear-append c [] t h k = k
 clear-append c (x ∷ s) t h k = (h .0, clear-append c s t (h .1) k)
 
@@ -42,10 +42,10 @@ lineOf-text p body r h =
     ∙ (λ i. Ok (front i, back i))
 
 -- the parts of a line
-former-text : (a b : List ℕ) → Clear 32 a → former (32 ∷ (a ++ (32 ∷ b))) ≡ a
+pub former-text : (a b : List ℕ) → Clear 32 a → former (32 ∷ (a ++ (32 ∷ b))) ≡ a
 former-text a b h = take-at a (32 ∷ b) _ (sym (upTo-clear 32 a b h))
 
-further-text : (a b : List ℕ) → Clear 32 a → further (32 ∷ (a ++ (32 ∷ b))) ≡ 32 ∷ b
+pub further-text : (a b : List ℕ) → Clear 32 a → further (32 ∷ (a ++ (32 ∷ b))) ≡ 32 ∷ b
 further-text a b h = drop-at a (32 ∷ b) _ (sym (upTo-clear 32 a b h))
 
 latter-text : (a b : List ℕ) → Clear 32 a → latter (32 ∷ (a ++ (32 ∷ b))) ≡ b

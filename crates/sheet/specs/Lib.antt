@@ -5,4 +5,5 @@ pub mod Parse
 pub mod Seen
 pub mod Render
 pub mod FirstLine
+pub mod Reasons
 pub mod Trip

@@ -10,6 +10,7 @@ ghost use Rattle.sheet.specs.Faults.{mapOk};
 ghost use Rattle.sheet.specs.Parts.{upTo, spelled, spaced, former, further, latter, shape, seen};
 ghost use Rattle.sheet.specs.Parse.{refusal, lineOf, triplesIf, partsIf, partIf, numberOf, readContents, letter, readPair, readPairs, readBad, parse, readText};
 ghost use Rattle.sheet.specs.FirstLine.{Judged};
+ghost use Rattle.sheet.specs.Reasons.{Reasoned};
 ghost use Rattle.sheet.specs.Sheets.{Legal};
 ghost use Rattle.sheet.specs.Trip.{Accepts-legal-sheets, WritesBack};
 ghost use Rattle.sheet.specs.Seen.{lineSeen, triplesSeen, partsSeen, partSeen, contentsSeen, pairSeen, restSeen, badSeen, wholeSeen};
@@ -346,6 +347,7 @@ fn store(list: &mut [u32], head: Head, pairs: &[u32])
 pub fn read(text: &[u8], list: &mut [u32]) -> Result<usize, Fault>
     ensures reads_exactly_the_format { λ r. ⌜ (r, now (list .exit)) ≡ readText (now (text .entry)) (now (list .entry)) ⌝ }
     ensures names_the_first_wrong_line { λ r. ⌜ Judged (now (text .entry)) r ⌝ }
+    ensures gives_the_reason { λ r. ⌜ Reasoned (now (text .entry)) r ⌝ }
     ensures accepts_legal_sheets { λ _. ⌜ Accepts-legal-sheets ⌝ }
     ensures leaves_a_legal_list { λ r. ⌜ made r (λ n. Legal (counted (now (list .exit))) × (n ≤ length (now (list .exit)))) ⌝ }
     ensures is_written_back { λ r. ⌜ made r (λ _. WritesBack (now (text .entry)) (now (list .exit))) ⌝ }

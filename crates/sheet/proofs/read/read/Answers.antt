@@ -6,6 +6,7 @@ use Rattle.std.proofs.shelf.Results.{err-from-errBy}
 use Rattle.sheet.proofs.ReadStored.{read-refused, read-short, read-stored}
 use Rattle.sheet.proofs.Legality.{wellFormed-legal}
 use Rattle.sheet.proofs.ReadFirst.{judged}
+use Rattle.sheet.proofs.ReadReasons.{reasoned}
 use Rattle.sheet.proofs.Trips.{accepts, read-again, read-formed}
 use Rattle.sheet.proofs.read.read.Needs as need
 
@@ -16,6 +17,7 @@ returns-in-Break-head c =
     record {
       reads-exactly-the-format = rw (p .1, p .2) whole;
       names-the-first-wrong-line = rw (p .1, p .2) (judged (c .args .text .now) (c .args .list .now) (c .args .list .now) _ whole);
+      gives-the-reason = rw (p .1, p .2) (reasoned (c .args .text .now) (c .args .list .now) (c .args .list .now) _ whole);
       accepts-legal-sheets = accepts;
       leaves-a-legal-list = rw (p .1) tt;
       is-written-back = rw (p .1) tt;
@@ -28,6 +30,7 @@ returns-then-places-count c =
     record {
       reads-exactly-the-format = rw (c .refuse .ensures) whole;
       names-the-first-wrong-line = rw (c .refuse .ensures) (judged (c .args .text .now) (c .args .list .now) (c .args .list .now) _ whole);
+      gives-the-reason = rw (c .refuse .ensures) (reasoned (c .args .text .now) (c .args .list .now) (c .args .list .now) _ whole);
       accepts-legal-sheets = accepts;
       leaves-a-legal-list = tt;
       is-written-back = tt;
@@ -40,6 +43,7 @@ returns c =
     record {
       reads-exactly-the-format = whole;
       names-the-first-wrong-line = judged (c .args .text .now) (c .args .list .now) _ _ whole;
+      gives-the-reason = reasoned (c .args .text .now) (c .args .list .now) _ _ whole;
       accepts-legal-sheets = accepts;
       leaves-a-legal-list =
           (wellFormed-legal _ (read-formed (c .args .text .now) (c .args .list .now) _ _ whole .formed), omega (arith, c .counted-len-places .ensures));
