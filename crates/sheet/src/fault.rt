@@ -5,6 +5,8 @@
 pub enum Layer {
     Sheet,
     Machine,
+    Assignment,
+    Refutation,
 }
 
 // A refusal: what refused, the number of the check that failed, and the place it speaks of (0 where there is none).

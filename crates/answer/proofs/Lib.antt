@@ -1,0 +1,15 @@
+pub mod Turns
+pub mod Spans
+pub mod Takings
+pub mod Holding
+pub mod Passing
+pub mod Parting
+pub mod Fronts
+pub mod Going
+pub mod Judging
+pub mod Members
+pub mod Resolving
+pub mod Cancelling
+pub mod Laying
+pub mod Refuting
+pub mod Verdicts

@@ -1,0 +1,9 @@
+pub mod Assignments
+pub mod Joint
+pub mod Lines
+pub mod Steps
+pub mod Runs
+pub mod Derivations
+pub mod Layout
+pub mod Places
+pub mod Passes

@@ -1,0 +1,1 @@
+// Interpolants, drawn from refutations.
