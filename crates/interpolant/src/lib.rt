@@ -1,1 +1,2 @@
 // Interpolants, drawn from refutations.
+pub mod laws;

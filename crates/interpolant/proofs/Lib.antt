@@ -1,0 +1,2 @@
+mod Resolving
+pub mod Separating
