@@ -1,2 +1,3 @@
 mod Resolving
 pub mod Separating
+mod Going

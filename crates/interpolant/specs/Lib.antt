@@ -1,1 +1,3 @@
 pub mod Interpolation
+pub mod Parting
+pub mod Drawing

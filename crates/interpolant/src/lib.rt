@@ -1,2 +1,5 @@
-// Interpolants, drawn from refutations.
+// Interpolants, drawn from refutations of path questions as formulas over latches.
+pub mod draw;
 pub mod laws;
+pub mod lines;
+mod parts;
