@@ -1,3 +1,5 @@
 mod Resolving
 pub mod Separating
 mod Going
+mod Gathering
+mod Annotating
