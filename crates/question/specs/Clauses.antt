@@ -52,6 +52,10 @@ unit s m x = (inQuestion (width s) m x ∷ []) ∷ []
 abbrev pub badClauses : Sheet → ℕ → List (List ℕ)
 badClauses s k = stretch (λ t. inFrame (width s) t (s .bad) ∷ []) 1 (k + 1) ∷ []
 
+-- a frame and formulas, where a formula literal x and a literal y of the question have to be true
+abbrev pub stateClauses : Sheet → List ℕ → ℕ → ℕ → ℕ → List (List ℕ)
+stateClauses s f n x y = frameClauses s 0 ++ (formulaClauses s 1 f n ++ (unit s 1 x ++ ((y ∷ []) ∷ [])))
+
 -- is a state in r bad?
 abbrev pub startClauses : Sheet → List ℕ → ℕ → ℕ → List (List ℕ)
 startClauses s f n r = frameClauses s 0 ++ (formulaClauses s 1 f n ++ (unit s 1 r ++ ((inFrame (width s) 0 (s .bad) ∷ []) ∷ [])))

@@ -7,7 +7,7 @@ use lib.ListN.{length, replicate}
 use Rattle.std.specs.declared.option.Option.{Option}
 use Rattle.std.specs.declared.option.Option.the-variants.{Some, None}
 use Rattle.lists.specs.Counted.{counted, onCounted}
-use Rattle.sheet.specs.Sheets.{Sheet, sheetOf}
+use Rattle.sheet.specs.Sheets.{Sheet}
 use Rattle.sheet.specs.Render.{wellFormed}
 use Rattle.formula.specs.Formulas.{width}
 use Rattle.question.specs.Clauses.{startClauses, firstClauses, pathClauses, inclusionClauses}
@@ -40,6 +40,10 @@ inclusionList s f n p r = encode (width s + n) 0 (inclusionClauses s f n p r)
 abbrev pub allBelow : ℕ → List ℕ → Bool
 allBelow m [] = true
 allBelow m (x ∷ xs) = ltb x m && allBelow m xs
+
+-- how long a question is, and a list of n places with it in front and zeros behind
+abbrev pub written : List ℕ → ℕ → ℕ × List ℕ
+written q n = (length q, q ++ replicate (n - length q) 0)
 
 -- a question in a lent list, with zeros behind, if there is room and each number has 32 bits; the result is its length
 abbrev pub posed : List ℕ → List ℕ → Option ℕ × List ℕ
