@@ -56,6 +56,7 @@ module _ (s : Sheet) (u : Cut) (latched : Latched s u) (q t : List ℕ) (f₀ : 
 
   -- the first k lines are as they should be
   pub record Good (k n : ℕ) (f vs : List ℕ) : Type 0 where
+    pub room : lineCount q t ≤ length vs
     pub extends : Extends s f₀ n₀ f n
     pub formulas : (j : ℕ) → Formula s n (getD vs j 0)
     pub each : Ordered q t → (α : ℕ → Bool) (j : ℕ) → j < k → Line α (vals f n vs α) j (vals f n vs α j)
@@ -145,12 +146,12 @@ module _ (s : Sheet) (u : Cut) (latched : Latched s u) (q t : List ℕ) (f₀ : 
         (λ h. step-next (ltb-false k c h))
 
   -- line k takes its place
-  module _ (k : ℕ) (vs : List ℕ) (n : ℕ) (f : List ℕ) (x n′ : ℕ) (f′ : List ℕ) (l : k < lineCount q t) (room : k < length vs) (g : Good k n f vs) (m : Next k vs n f x n′ f′) where
+  module _ (k : ℕ) (vs : List ℕ) (n : ℕ) (f : List ℕ) (x n′ : ℕ) (f′ : List ℕ) (l : k < lineCount q t) (g : Good k n f vs) (m : Next k vs n f x n′ f′) where
     at-others : (j : ℕ) → j ≢ k → getD (set vs k x) j 0 ≡ getD vs j 0
     at-others j ne = getD-set-other vs k j x 0 ne
 
     at-k : getD (set vs k x) k 0 ≡ x
-    at-k = getD-set-same vs k x 0 room
+    at-k = getD-set-same vs k x 0 (omega (arith, g .room))
 
     vals-same : (α : ℕ → Bool) (j : ℕ) → j < k → vals f′ n′ (set vs k x) α j ≡ vals f n vs α j
     vals-same α j h =
@@ -175,6 +176,7 @@ module _ (s : Sheet) (u : Cut) (latched : Latched s u) (q t : List ℕ) (f₀ : 
     good-more : Good (k + 1) n′ f′ (set vs k x)
     good-more =
         record {
+          room = omega (arith, g .room, length-set vs k x);
           extends = extends-trans s f₀ f f′ n₀ n n′ (g .extends) (m .extends);
           formulas = λ j. ⊎-elim
               (λ (e : j ≡ k). subst (λ (i : ℕ). Formula s n′ (getD (set vs k x) i 0)) (sym e) (subst (λ (y : ℕ). Formula s n′ y) (sym at-k) (m .formula)))
@@ -195,28 +197,29 @@ module _ (s : Sheet) (u : Cut) (latched : Latched s u) (q t : List ℕ) (f₀ : 
   Ends k broken = Unit {0}
 
   abbrev Rest : ℕ → Type 0
-  Rest m = (k : ℕ) (vs : List ℕ) (n : ℕ) (f : List ℕ) → k + m ≤ lineCount q t → k + m ≤ length vs → Good k n f vs → Ends (k + m) (drawLines w u q t m k vs n f)
+  Rest m = (k : ℕ) (vs : List ℕ) (n : ℕ) (f : List ℕ) → k + m ≤ lineCount q t → Good k n f vs → Ends (k + m) (drawLines w u q t m k vs n f)
 
-  good-next : (m : ℕ) → Rest m → (k : ℕ) (vs : List ℕ) (n : ℕ) (f : List ℕ) → k + suc m ≤ lineCount q t → k + suc m ≤ length vs → Good k n f vs
+  good-next : (m : ℕ) → Rest m → (k : ℕ) (vs : List ℕ) (n : ℕ) (f : List ℕ) → k + suc m ≤ lineCount q t → Good k n f vs
       → (o : Outcome) → Nexts k vs n f o → Ends (k + suc m) (proceed o (λ x n f. drawLines w u q t m (k + 1) (set vs k x) n f))
-  good-next m rest k vs n f l room g short h = tt
-  good-next m rest k vs n f l room g (grown x n′ f′) h =
+  good-next m rest k vs n f l g short h = tt
+  good-next m rest k vs n f l g (grown x n′ f′) h =
       let e : k + 1 + m ≡ k + suc m = omega arith in
       subst (λ (i : ℕ). Ends i (drawLines w u q t m (k + 1) (set vs k x) n′ f′)) e
-      (rest (k + 1) (set vs k x) n′ f′ (omega arith) (omega (arith, length-set vs k x)) (good-more k vs n f x n′ f′ (omega arith) (omega arith) g h))
+      (rest (k + 1) (set vs k x) n′ f′ (omega arith) (good-more k vs n f x n′ f′ (omega arith) g h))
 
   good-lines : (m : ℕ) → Rest m
-  good-lines zero k vs n f l room g = let e : k ≡ k + 0 = omega arith in subst (λ (i : ℕ). Good i n f vs) e g
-  good-lines (suc m) k vs n f l room g =
-      good-next m (good-lines m) k vs n f l room g (drawLine w u q t vs k n f) (line-next k vs n f (g .extends .gates) (g .formulas))
+  good-lines zero k vs n f l g = let e : k ≡ k + 0 = omega arith in subst (λ (i : ℕ). Good i n f vs) e g
+  good-lines (suc m) k vs n f l g =
+      good-next m (good-lines m) k vs n f l g (drawLine w u q t vs k n f) (line-next k vs n f (g .extends .gates) (g .formulas))
 
   -- all lines, into values that are 0
   pub good-all : (vs : List ℕ) → ((j : ℕ) → getD vs j 0 ≡ 0) → lineCount q t ≤ length vs → Gates s f₀ n₀ → Ends (lineCount q t) (drawLines w u q t (lineCount q t) 0 vs n₀ f₀)
   good-all vs zeros room gates =
       let e : 0 + lineCount q t ≡ lineCount q t = omega arith in
       subst (λ (i : ℕ). Ends i (drawLines w u q t (lineCount q t) 0 vs n₀ f₀)) e
-      (good-lines (lineCount q t) 0 vs n₀ f₀ (omega arith) (omega arith)
+      (good-lines (lineCount q t) 0 vs n₀ f₀ (omega arith)
       (record {
+        room = room;
         extends = extends-refl s f₀ n₀ gates;
         formulas = λ j. subst (λ (y : ℕ). Formula s n₀ y) (sym (zeros j)) (inl refl);
         each = λ _ α j h. absurd (omega arith);
@@ -235,3 +238,22 @@ module _ (s : Sheet) (u : Cut) (latched : Latched s u) (q t : List ℕ) (f₀ : 
         disjoined = λ i l h. by i l ∙ cond-true _ _ _ h;
         conjoined = λ i l h. by i l ∙ cond-false _ _ _ h;
       }
+
+-- the same of other values that are equal up to the last line
+pub partial-same : (q t : List ℕ) (u : Cut) (α p p′ : ℕ → Bool) → Ordered q t → ((k : ℕ) → k < lineCount q t → p′ k ≡ p k)
+    → Partial q t u α (lineCount q t) p → Partial q t u α (lineCount q t) p′
+partial-same q t u α p p′ ordered same is =
+    record {
+      first = λ k l a b. subst (λ v. Decides v (Shares u α (clauseOf q k))) (sym (same k l)) (is .first k l a b);
+      second = λ k l a b. same k l ∙ is .second k l a b;
+      disjoined = λ i l h.
+          let before = ordered i (omega arith) in
+          let one = same (stepOf t i .first) (omega (arith, before .0)) in
+          let two = same (stepOf t i .second) (omega (arith, before .1)) in
+          same (clauseCount q + i) l ∙ is .disjoined i l h ∙ sym (λ d. one d || two d);
+      conjoined = λ i l h.
+          let before = ordered i (omega arith) in
+          let one = same (stepOf t i .first) (omega (arith, before .0)) in
+          let two = same (stepOf t i .second) (omega (arith, before .1)) in
+          same (clauseCount q + i) l ∙ is .conjoined i l h ∙ sym (λ d. one d && two d);
+    }

@@ -3,3 +3,5 @@ pub mod Separating
 mod Going
 mod Gathering
 mod Annotating
+mod Pathways
+mod Meanings
