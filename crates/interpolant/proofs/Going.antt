@@ -27,7 +27,7 @@ use Rattle.answer.specs.Steps.{stepCount, stepOf}
 use Rattle.answer.specs.declared.steps.Step.{Step}
 use Rattle.interpolant.specs.declared.draw.Short.{Short}
 use Rattle.interpolant.specs.declared.draw.Short.the-variants.{LineValues, Formula}
-use Rattle.interpolant.specs.declared.lines.Drawn.{Drawn}
+use Rattle.interpolant.specs.declared.draw.Drawn.{Drawn}
 use Rattle.interpolant.specs.Interpolation.{Cut, lineCount}
 use Rattle.interpolant.specs.Drawing.{orShared, drawStep, drawLine, Drawing, whole, broken, proceed, drawLines, Found, cleared, answered, drawAll, interpolation, Stays}
 use Rattle.interpolant.specs.Parting.{widthIn, partsOf, cutBy, cutOf, latchIn}

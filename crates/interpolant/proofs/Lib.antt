@@ -5,3 +5,4 @@ mod Gathering
 mod Annotating
 mod Pathways
 mod Meanings
+mod Zeros

@@ -7,7 +7,7 @@ use Prim.Native.Nat.{ℕ, _+_, _-_, _≤_, _<_}
 use native.Mathlib.Omega.{arith}
 use lib.Dec.{leb, ltb}
 use lib.ListN.{length, getD, replicate, length-replicate}
-use Rattle.std.proofs.shelf.Lists.{getD-append-left, getD-past, getD-replicate}
+use Rattle.std.proofs.shelf.Lists.{getD-append-left}
 use Rattle.std.proofs.shelf.Results.{made-weaker}
 use Rattle.std.proofs.shelf.Tests.{cond-both, and-parts, and-from, leb-true, ltb-true, le-leb, lt-ltb, cases-lt, both-ways}
 use Rattle.std.specs.Vec.{made}
@@ -24,17 +24,12 @@ use Rattle.interpolant.specs.Interpolation.{Cut, Parted, Partial, First, Secon
 use Rattle.interpolant.specs.Meaning.{latchesAt, valueUnder, DrawsFormula, Annotates, Interpolant, Interpolates, IsPath, Between, LiesBetween}
 use Rattle.interpolant.specs.Parting.{widthIn, cutOf}
 use Rattle.interpolant.specs.declared.draw.Short.{Short}
-use Rattle.interpolant.specs.declared.lines.Drawn.{Drawn}
+use Rattle.interpolant.specs.declared.draw.Drawn.{Drawn}
 use Rattle.interpolant.proofs.Annotating.{Ordered, Good, Ends, good-all, partial, partial-same}
 use Rattle.interpolant.proofs.Gathering.{Latched}
 use Rattle.interpolant.proofs.Pathways.{legal-wide, sound, parted, first-from, second-from, value-by, step-given, path-given}
+use Rattle.interpolant.proofs.Zeros.{zeros}
 use Rattle.interpolant.proofs.Separating.{implied, refuted, separates}
-
-zeros : (n j : ℕ) → _≡_ {A = ℕ} (getD (replicate n 0) j 0) 0
-zeros n j = ⊎-elim
-    (λ (h : j < n). getD-replicate n j 0 0 h)
-    (λ (h : n ≤ j). getD-past (replicate n 0) j 0 (omega (arith, length-replicate {A = ℕ} n 0)))
-    (cases-lt j n)
 
 module _ (l q t f : List ℕ) (n : ℕ) where
   abbrev s : Sheet

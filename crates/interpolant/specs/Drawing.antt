@@ -2,7 +2,7 @@
 use mathlib.Core.Bool.{cond}
 use mathlib.Core.List.{List, [], _∷_, _++_}
 use mathlib.Core.Path.{_≡_}
-use Prim.Native.Nat.{ℕ, zero, suc, _+_, _-_, _*_, _/_}
+use Prim.Native.Nat.{ℕ, zero, suc, _+_, _-_, _*_, _/_, _≤_}
 use lib.Dec.{leb, ltb}
 use lib.ListN.{length, getD, set, replicate}
 use Rattle.std.specs.Options.{Cases}
@@ -20,7 +20,7 @@ use Rattle.interpolant.specs.Interpolation.{Cut, lineCount}
 use Rattle.interpolant.specs.Parting.{widthIn, cutOf}
 use Rattle.interpolant.specs.declared.draw.Short.{Short}
 use Rattle.interpolant.specs.declared.draw.Short.the-variants.{LineValues, Formula}
-use Rattle.interpolant.specs.declared.lines.Drawn.{Drawn}
+use Rattle.interpolant.specs.declared.draw.Drawn.{Drawn}
 
 -- ---- the lines, one by one: f is a formula list with n gates, and the lines before have the literals vs
 -- the OR of x and of the shared literals of a clause, each as the latch's literal that it is of in frame 1
@@ -84,6 +84,10 @@ onValues draw vs = (draw (counted vs) .0, draw (counted vs) .1, draw (counted vs
 -- the drawing of the interpolant of a refutation t of a question q, over the sheet that l lays out
 abbrev pub interpolation : List ℕ → List ℕ → List ℕ → List ℕ → ℕ → List ℕ → Found
 interpolation l q t f n vs = onValues (drawAll (widthIn l) (cutOf l q n) q t n f) vs
+
+-- the places from m on are 0
+abbrev pub ZeroFrom : ℕ → List ℕ → Type 0
+ZeroFrom m xs = (k : ℕ) → m ≤ k → getD xs k 0 ≡ 0
 
 -- ---- what the parts of the drawing are found to have done
 -- what lies behind the places that count is as it was

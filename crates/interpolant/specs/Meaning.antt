@@ -16,7 +16,7 @@ use Rattle.answer.specs.Derivations.{Derives}
 use Rattle.answer.specs.Steps.{stepCount}
 use Rattle.interpolant.specs.Interpolation.{Cut, Parted, Partial, First, Second, lineCount}
 use Rattle.interpolant.specs.Parting.{cutOf}
-use Rattle.interpolant.specs.declared.lines.Drawn.{Drawn}
+use Rattle.interpolant.specs.declared.draw.Drawn.{Drawn}
 
 -- the latch bits that an assignment has in frame 1, and the value of a formula there
 abbrev pub latchesAt : Sheet → (ℕ → Bool) → ℕ → Bool

@@ -3,11 +3,11 @@ ghost use mathlib.Core.Path.{_≡_};
 ghost use Prim.Native.Nat.{_^_, _≤_};
 ghost use lib.ListN.{length};
 ghost use Rattle.lists.specs.Counted.{counted};
-ghost use Rattle.interpolant.specs.Drawing.{cleared, drawAll, interpolation};
+ghost use Rattle.interpolant.specs.Drawing.{cleared, drawAll, interpolation, ZeroFrom};
+ghost use Rattle.interpolant.specs.Interpolation.{lineCount};
 ghost use Rattle.interpolant.specs.Meaning.{DrawsFormula, Annotates, Interpolates, LiesBetween};
 ghost use Rattle.interpolant.specs.Parting.{cutBy};
 ghost use Rattle.std.specs.Vec.{made};
-use crate::lines::Drawn;
 use crate::lines::draw_lines;
 use crate::parts::Parts;
 use crate::parts::number_at;
@@ -15,6 +15,13 @@ use lists::counted;
 use lists::counted_len;
 use question::read::clause_count;
 use sheet::literal::Literal;
+
+// A literal of the formula list, and how many gates the list has.
+#[derive(Clone, Copy)]
+pub struct Drawn {
+    pub literal: Literal,
+    pub gates: u32,
+}
 
 // Which list has no room.
 #[derive(Clone, Copy, PartialEq, Eq, Debug)]
@@ -83,6 +90,7 @@ pub fn interpolate(
     line_values: &mut [u32],
 ) -> Result<Drawn, Short>
     ensures draws_each_line_in_order { λ r. ⌜ (r, now (formula .exit), now («line_values» .exit)) ≡ interpolation (counted (now (sheet .entry))) (counted (now (question .entry))) (counted (now (refutation .entry))) (now (formula .entry)) gates (now («line_values» .entry)) ⌝ }
+    ensures line_values_are_zero_behind_the_lines { λ r. ⌜ made r (λ _. ZeroFrom (lineCount (counted (now (question .entry))) (counted (now (refutation .entry)))) (counted (now («line_values» .exit)))) ⌝ }
     ensures draws_a_formula { λ r. ⌜ made r (λ d. DrawsFormula (counted (now (sheet .entry))) (now (formula .entry)) gates (now (formula .exit)) d) ⌝ }
     ensures gives_each_line_its_partial_interpolant { λ r. ⌜ made r (λ d. Annotates (counted (now (sheet .entry))) (counted (now (question .entry))) (counted (now (refutation .entry))) (now (formula .entry)) gates (now (formula .exit)) (now («line_values» .exit)) d) ⌝ }
     ensures separates_the_parts { λ r. ⌜ made r (λ d. Interpolates (counted (now (sheet .entry))) (counted (now (question .entry))) (counted (now (refutation .entry))) (now (formula .entry)) gates (now (formula .exit)) d) ⌝ }

@@ -1,5 +1,5 @@
 // Interpolants, drawn from refutations of path questions as formulas over latches.
 pub mod draw;
 pub mod laws;
-pub mod lines;
+mod lines;
 mod parts;

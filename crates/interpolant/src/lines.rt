@@ -3,6 +3,7 @@ ghost use Prim.Native.Nat.{_^_, _≤_};
 ghost use lib.ListN.{length};
 ghost use Rattle.interpolant.specs.Drawing.{orShared, drawStep, drawLine, drawLines, Stays, Gives, GivesAll};
 ghost use Rattle.interpolant.specs.Parting.{cutBy};
+use crate::draw::Drawn;
 use crate::parts::Parts;
 use crate::parts::number_at;
 use answer::steps::Step;
@@ -12,13 +13,6 @@ use formula::question_literal::QuestionLiteral;
 use question::read::clause;
 use question::read::clause_count;
 use sheet::literal::Literal;
-
-// A literal of the formula list, and how many gates the list has.
-#[derive(Clone, Copy)]
-pub struct Drawn {
-    pub literal: Literal,
-    pub gates: u32,
-}
 
 // The OR of a clause's shared literals, each as the literal of a latch.
 fn draw_clause(parts: Parts, clause: &[u32], formula: &mut [u32], gates: u32) -> Option<Drawn>
