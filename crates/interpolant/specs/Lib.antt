@@ -1,0 +1,4 @@
+pub mod Interpolation
+pub mod Parting
+pub mod Drawing
+pub mod Meaning
