@@ -3,6 +3,8 @@
 #[cfg(test)]
 mod asking;
 #[cfg(test)]
+mod judging;
+#[cfg(test)]
 mod reading;
 #[cfg(test)]
 mod stepping;
