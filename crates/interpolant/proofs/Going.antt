@@ -1,13 +1,13 @@
 -- What the parts of a drawing do, turn by turn. Assumes nothing.
 use mathlib.Core.Path.{_≡_, refl, sym, ap, subst, _∙_}
-use mathlib.Core.Bool.{true, false, cond, _&&_}
-use mathlib.Core.List.{List, [], _∷_, _++_}
-use Prim.Native.Nat.{ℕ, zero, suc, _+_, _-_, _*_, _/_, _^_, _≤_, _<_, min, max}
+use mathlib.Core.Bool.{true, false, _&&_}
+use mathlib.Core.List.{List, [], _++_}
+use Prim.Native.Nat.{ℕ, suc, _+_, _-_, _*_, _/_, _^_, _≤_, _<_, min, max}
 use native.Mathlib.Omega.{arith}
 use borrow.Rule.Slice.PartMut.{postOf}
 use lib.Dec.{leb, ltb}
 use lib.ListN.{length, getD, set, take, drop, replicate, length-take}
-use Rattle.std.proofs.shelf.Lists.{take-all, drop-all, drop-more, drop-set-lt}
+use Rattle.std.proofs.shelf.Lists.{append-nil, take-all, drop-all, drop-more, drop-set-lt}
 use Rattle.std.proofs.shelf.Tests.{cond-true, cond-false, cond-both, and-parts, leb-true, le-leb, lt-leb, lt-ltb, le-ltb}
 use Rattle.std.specs.declared.option.Option.{Option}
 use Rattle.std.specs.declared.option.Option.the-variants.{Some, None}
@@ -40,6 +40,13 @@ cleared-by xs zeros len is filled =
     let rest : drop (len - 0) xs ≡ uncounted xs = drop-min xs (2 ^ 28) (len - 0) (omega arith) in
     let zero-front : zeros ≡ replicate (length (counted xs)) 0 = filled ∙ ap (λ (ys : List ℕ). replicate (length ys) 0) front in
     (λ i. zero-front i ++ rest i)
+
+-- a list that counts whole
+cleared-whole : (xs : List ℕ) → length xs ≤ 2 ^ 28 → cleared xs ≡ replicate (length xs) 0
+cleared-whole xs few =
+    let front : counted xs ≡ xs = take-all (2 ^ 28) xs few in
+    let rest : uncounted xs ≡ [] = drop-all (2 ^ 28) xs few in
+    (λ i. replicate (length (front i)) 0 ++ rest i) ∙ append-nil (replicate (length xs) 0)
 
 -- ---- what lies behind the places that count stays
 pub stays-refl : (f : List ℕ) → Stays f f
@@ -205,13 +212,13 @@ module _ (w : ℕ) (u : Cut) (q t : List ℕ) (n : ℕ) (f vs : List ℕ) (few-c
         ap (λ (x : ℕ). let r : Found = (Ok (record { literal = literal x; gates = n′ }), f′, vs′) in r) is ∙ all-by (whole n′ f′ vs′) e
 
     pub all-broken : drawLines w u q t lines 0 zeros n f ≡ broken → (f′ : List ℕ) → Stays f f′ → length f′ ≡ length f → (none : List ℕ) → none ≡ cleared f′
-        → (vs′ : List ℕ) → length vs′ ≡ length vs → (zeros′ : List ℕ) → zeros′ ≡ replicate (length vs′) 0
-        → _≡_ {A = Found} (Err Formula, none, zeros′) (drawAll w u q t n f vs)
-    all-broken e f′ stays same none cleared-f′ vs′ same-values zeros′ filled′ =
+        → (vs′ : List ℕ) → length vs′ ≡ length vs → length vs ≤ 2 ^ 28 → (nones : List ℕ) → nones ≡ cleared vs′
+        → _≡_ {A = Found} (Err Formula, none, nones) (drawAll w u q t n f vs)
+    all-broken e f′ stays same none cleared-f′ vs′ same-values few nones cleared-vs′ =
         let long : length (counted f′) ≡ length (counted f) = omega (arith, length-take (2 ^ 28) f′, length-take (2 ^ 28) f) in
         let is-none : none ≡ cleared f = cleared-f′ ∙ (λ i. replicate (long i) 0 ++ stays .rest i) in
-        let is-zeros : zeros′ ≡ replicate (length vs) 0 = filled′ ∙ ap (λ (k : ℕ). replicate k 0) same-values in
-        (λ i. (Err Formula, is-none i, is-zeros i)) ∙ all-by broken e
+        let is-nones : nones ≡ replicate (length vs) 0 = cleared-vs′ ∙ cleared-whole vs′ (omega arith) ∙ ap (λ (k : ℕ). replicate k 0) same-values in
+        (λ i. (Err Formula, is-none i, is-nones i)) ∙ all-by broken e
 
 -- where of each list the front counts
 pub interpolation-by : (l q t : List ℕ) (n : ℕ) (f old : List ℕ) (u : Parts) → u ≡ partsOf l q n → (q′ t′ : List ℕ) → q′ ≡ q → t′ ≡ t

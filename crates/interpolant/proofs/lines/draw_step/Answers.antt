@@ -1,8 +1,7 @@
-use mathlib.Core.Path.{sym, ap, _∙_}
+use mathlib.Core.Path.{sym, _∙_}
 use Rattle.formula.specs.Conjunction.{conjoin, disjoin}
 use Rattle.formula.specs.declared.builder.Builder.{Builder}
 use Rattle.formula.proofs.Building.{by-some, by-none}
-use Rattle.interpolant.specs.declared.parts.Parts.{Parts}
 use Rattle.interpolant.proofs.Going.{and-keeps, or-keeps, local-step, other-step}
 use Rattle.interpolant.proofs.lines.draw_step.Needs as need
 
