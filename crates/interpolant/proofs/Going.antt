@@ -29,7 +29,7 @@ use Rattle.interpolant.specs.declared.draw.Short.{Short}
 use Rattle.interpolant.specs.declared.draw.Short.the-variants.{LineValues, Formula}
 use Rattle.interpolant.specs.declared.draw.Drawn.{Drawn}
 use Rattle.interpolant.specs.Interpolation.{Cut, lineCount}
-use Rattle.interpolant.specs.Drawing.{orShared, drawStep, drawLine, Drawing, whole, broken, proceed, drawLines, Found, cleared, answered, drawAll, interpolation, Stays}
+use Rattle.interpolant.specs.Drawing.{orShared, drawStep, drawLine, Drawing, whole, broken, proceed, drawLines, Found, cleared, answered, drawAll, interpolation, Stays, Gives}
 use Rattle.interpolant.specs.Parting.{widthIn, partsOf, cutBy, cutOf, latchIn}
 
 -- ---- zeros in the places that count
@@ -84,7 +84,7 @@ found-kept g f (grown x n h) k r g′ f′ e = subst (Stays f) (sym (ap (λ (q :
 found-kept g f short k r g′ f′ e = subst (Stays f) (sym (ap (λ (q : Answer). q .2) e)) (stays-refl f)
 
 module _ (g : Builder) (f : List ℕ) (w n a b : ℕ) (r : Option Literal) (g′ : Builder) (f′ : List ℕ) where
-  pub and-keeps : _≡_ {A = Answer} (r, g′, f′) (built g f (conjoin w n f a b)) → Stays f f′
+  and-keeps : _≡_ {A = Answer} (r, g′, f′) (built g f (conjoin w n f a b)) → Stays f f′
   and-keeps = found-kept g f (conjoin w n f a b) (by-kept w n f a b (simple a b)) r g′ f′
 
   pub or-keeps : _≡_ {A = Answer} (r, g′, f′) (built g f (disjoin w n f a b)) → Stays f f′
@@ -138,12 +138,38 @@ module _ (u : Parts) (ys : List ℕ) (i : ℕ) where
       or-short e = or-by short (by-none g f either g′ f′ e .0)
 
 -- ---- a step
-module _ (u : Parts) (vs : List ℕ) (s : Step) (n : ℕ) (f : List ℕ) (a b : Literal) (is-a : a .0 ≡ getD vs (s .first) 0) (is-b : b .0 ≡ getD vs (s .second) 0) where
-  pub local-step : cutBy u .local (s .pivot) ≡ true → drawStep (u .width) (cutBy u) vs s n f ≡ disjoin (u .width) n f (a .0) (b .0)
-  local-step h = cond-true _ _ _ h ∙ sym (λ i. disjoin (u .width) n f (is-a i) (is-b i))
+-- what is drawn, by what AND or OR answers
+abbrev drawnBy : Option Literal → Builder → Option Drawn
+drawnBy (Some x) g = Some (record { literal = x; gates = g .count })
+drawnBy None g = None
 
-  pub other-step : cutBy u .local (s .pivot) ≡ false → drawStep (u .width) (cutBy u) vs s n f ≡ conjoin (u .width) n f (a .0) (b .0)
-  other-step h = cond-false _ _ _ h ∙ sym (λ i. conjoin (u .width) n f (is-a i) (is-b i))
+gives-by : (g : Builder) (f : List ℕ) (o : Outcome) (r : Option Literal) (g′ : Builder) (f′ : List ℕ) → _≡_ {A = Answer} (r, g′, f′) (built g f o) → Gives (drawnBy r g′) f′ o
+gives-by g f o (Some x) g′ f′ e = by-some g f o x g′ f′ e .0
+gives-by g f o None g′ f′ e = by-none g f o g′ f′ e .0
+
+module _ (u : Parts) (vs : List ℕ) (s : Step) (n : ℕ) (f : List ℕ) (a b : Literal) (is-a : a .0 ≡ getD vs (s .first) 0) (is-b : b .0 ≡ getD vs (s .second) 0)
+    (r : Option Literal) (g′ : Builder) (f′ : List ℕ) where
+  abbrev start : Builder
+  start = record { width = u .width; count = n }
+
+  abbrev Told : Type 0
+  Told = Gives (drawnBy r g′) f′ (drawStep (u .width) (cutBy u) vs s n f) × Stays f f′
+
+  pub local-told : cutBy u .local (s .pivot) ≡ true → _≡_ {A = Answer} (r, g′, f′) (built start f (disjoin (u .width) n f (a .0) (b .0))) → Told
+  local-told h e =
+      let is : drawStep (u .width) (cutBy u) vs s n f ≡ disjoin (u .width) n f (a .0) (b .0) =
+      cond-true _ _ _ h ∙ sym (λ i. disjoin (u .width) n f (is-a i) (is-b i)) in (
+        subst (λ (o : Outcome). Gives (drawnBy r g′) f′ o) (sym is) (gives-by start f (disjoin (u .width) n f (a .0) (b .0)) r g′ f′ e),
+        or-keeps start f (u .width) n (a .0) (b .0) r g′ f′ e,
+      )
+
+  pub other-told : cutBy u .local (s .pivot) ≡ false → _≡_ {A = Answer} (r, g′, f′) (built start f (conjoin (u .width) n f (a .0) (b .0))) → Told
+  other-told h e =
+      let is : drawStep (u .width) (cutBy u) vs s n f ≡ conjoin (u .width) n f (a .0) (b .0) =
+      cond-false _ _ _ h ∙ sym (λ i. conjoin (u .width) n f (is-a i) (is-b i)) in (
+        subst (λ (o : Outcome). Gives (drawnBy r g′) f′ o) (sym is) (gives-by start f (conjoin (u .width) n f (a .0) (b .0)) r g′ f′ e),
+        and-keeps start f (u .width) n (a .0) (b .0) r g′ f′ e,
+      )
 
 -- ---- a line, where every place of the question and of the refutation counts
 module _ (u : Parts) (q t vs : List ℕ) (k n : ℕ) (f : List ℕ) (few-clauses : length q ≤ 2 ^ 28) (few-steps : length t ≤ 2 ^ 28)
