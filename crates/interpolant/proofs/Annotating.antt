@@ -3,7 +3,7 @@ use mathlib.Core.Path.{_≡_, refl, sym, ap, subst, _∙_}
 use mathlib.Core.Bool.{Bool, true, false, cond, _||_, _&&_}
 use mathlib.Core.List.{List}
 use mathlib.Core.Logic.{inl, inr, ⊎-elim, _≢_}
-use Prim.Native.Nat.{ℕ, zero, suc, _+_, _-_, _/_, _≤_, _<_}
+use Prim.Native.Nat.{ℕ, zero, suc, _+_, _-_, _≤_, _<_}
 use native.Mathlib.Omega.{arith}
 use lib.Dec.{ltb}
 use lib.ListN.{length, getD, set, length-set}
@@ -14,7 +14,7 @@ use Rattle.sheet.specs.Sheets.{Sheet}
 use Rattle.question.specs.Questions.{clauseCount, clauseOf}
 use Rattle.answer.specs.Derivations.{ComeBefore}
 use Rattle.answer.specs.Steps.{stepCount, stepOf}
-use Rattle.formula.specs.Conjunction.{Outcome, grown, short, conjoin, disjoin, Extends, Joins}
+use Rattle.formula.specs.Conjunction.{Outcome, grown, short, conjoin, disjoin, Extends}
 use Rattle.formula.specs.Formulas.{width, Formula, Gates}
 use Rattle.formula.proofs.Valued.{formula-more, value-zero, value-one, extends-refl, extends-trans, Fine, conjoin-fine, disjoin-fine}
 use Rattle.interpolant.specs.Drawing.{orShared, drawStep, drawLine, Drawing, whole, broken, proceed, drawLines}

@@ -10,7 +10,6 @@ use Rattle.std.proofs.shelf.Tests.{cond-both, or-cases, or-left, or-right, both
 use Rattle.std.specs.Orderings.{Decides}
 use Rattle.sheet.specs.Sheets.{Sheet}
 use Rattle.signal.specs.Truth.{lit}
-use Rattle.question.specs.Questions.{Mem}
 use Rattle.formula.specs.Conjunction.{Outcome, grown, short, disjoin, Extends, Joins}
 use Rattle.formula.specs.Formulas.{width, nodesAt, Formula, Gates}
 use Rattle.formula.specs.Starting.{onward}

@@ -1,13 +1,13 @@
 -- What the parts of a drawing do, turn by turn. Assumes nothing.
 use mathlib.Core.Path.{_≡_, refl, sym, ap, subst, _∙_}
-use mathlib.Core.Bool.{true, false, cond, _&&_}
-use mathlib.Core.List.{List, [], _∷_, _++_}
-use Prim.Native.Nat.{ℕ, zero, suc, _+_, _-_, _*_, _/_, _^_, _≤_, _<_, min, max}
+use mathlib.Core.Bool.{true, false, _&&_}
+use mathlib.Core.List.{List, [], _++_}
+use Prim.Native.Nat.{ℕ, suc, _+_, _-_, _*_, _/_, _^_, _≤_, _<_, min, max}
 use native.Mathlib.Omega.{arith}
 use borrow.Rule.Slice.PartMut.{postOf}
 use lib.Dec.{leb, ltb}
 use lib.ListN.{length, getD, set, take, drop, replicate, length-take}
-use Rattle.std.proofs.shelf.Lists.{take-all, drop-all, drop-more, drop-set-lt}
+use Rattle.std.proofs.shelf.Lists.{append-nil, take-all, drop-all, drop-more, drop-set-lt}
 use Rattle.std.proofs.shelf.Tests.{cond-true, cond-false, cond-both, and-parts, leb-true, le-leb, lt-leb, lt-ltb, le-ltb}
 use Rattle.std.specs.declared.option.Option.{Option}
 use Rattle.std.specs.declared.option.Option.the-variants.{Some, None}
@@ -29,7 +29,7 @@ use Rattle.interpolant.specs.declared.draw.Short.{Short}
 use Rattle.interpolant.specs.declared.draw.Short.the-variants.{LineValues, Formula}
 use Rattle.interpolant.specs.declared.draw.Drawn.{Drawn}
 use Rattle.interpolant.specs.Interpolation.{Cut, lineCount}
-use Rattle.interpolant.specs.Drawing.{orShared, drawStep, drawLine, Drawing, whole, broken, proceed, drawLines, Found, cleared, answered, drawAll, interpolation, Stays}
+use Rattle.interpolant.specs.Drawing.{orShared, drawStep, drawLine, Drawing, whole, broken, proceed, drawLines, Found, cleared, answered, drawAll, interpolation, Stays, Gives}
 use Rattle.interpolant.specs.Parting.{widthIn, partsOf, cutBy, cutOf, latchIn}
 
 -- ---- zeros in the places that count
@@ -40,6 +40,13 @@ cleared-by xs zeros len is filled =
     let rest : drop (len - 0) xs ≡ uncounted xs = drop-min xs (2 ^ 28) (len - 0) (omega arith) in
     let zero-front : zeros ≡ replicate (length (counted xs)) 0 = filled ∙ ap (λ (ys : List ℕ). replicate (length ys) 0) front in
     (λ i. zero-front i ++ rest i)
+
+-- a list that counts whole
+cleared-whole : (xs : List ℕ) → length xs ≤ 2 ^ 28 → cleared xs ≡ replicate (length xs) 0
+cleared-whole xs few =
+    let front : counted xs ≡ xs = take-all (2 ^ 28) xs few in
+    let rest : uncounted xs ≡ [] = drop-all (2 ^ 28) xs few in
+    (λ i. replicate (length (front i)) 0 ++ rest i) ∙ append-nil (replicate (length xs) 0)
 
 -- ---- what lies behind the places that count stays
 pub stays-refl : (f : List ℕ) → Stays f f
@@ -77,7 +84,7 @@ found-kept g f (grown x n h) k r g′ f′ e = subst (Stays f) (sym (ap (λ (q :
 found-kept g f short k r g′ f′ e = subst (Stays f) (sym (ap (λ (q : Answer). q .2) e)) (stays-refl f)
 
 module _ (g : Builder) (f : List ℕ) (w n a b : ℕ) (r : Option Literal) (g′ : Builder) (f′ : List ℕ) where
-  pub and-keeps : _≡_ {A = Answer} (r, g′, f′) (built g f (conjoin w n f a b)) → Stays f f′
+  and-keeps : _≡_ {A = Answer} (r, g′, f′) (built g f (conjoin w n f a b)) → Stays f f′
   and-keeps = found-kept g f (conjoin w n f a b) (by-kept w n f a b (simple a b)) r g′ f′
 
   pub or-keeps : _≡_ {A = Answer} (r, g′, f′) (built g f (disjoin w n f a b)) → Stays f f′
@@ -131,12 +138,38 @@ module _ (u : Parts) (ys : List ℕ) (i : ℕ) where
       or-short e = or-by short (by-none g f either g′ f′ e .0)
 
 -- ---- a step
-module _ (u : Parts) (vs : List ℕ) (s : Step) (n : ℕ) (f : List ℕ) (a b : Literal) (is-a : a .0 ≡ getD vs (s .first) 0) (is-b : b .0 ≡ getD vs (s .second) 0) where
-  pub local-step : cutBy u .local (s .pivot) ≡ true → drawStep (u .width) (cutBy u) vs s n f ≡ disjoin (u .width) n f (a .0) (b .0)
-  local-step h = cond-true _ _ _ h ∙ sym (λ i. disjoin (u .width) n f (is-a i) (is-b i))
+-- what is drawn, by what AND or OR answers
+abbrev drawnBy : Option Literal → Builder → Option Drawn
+drawnBy (Some x) g = Some (record { literal = x; gates = g .count })
+drawnBy None g = None
 
-  pub other-step : cutBy u .local (s .pivot) ≡ false → drawStep (u .width) (cutBy u) vs s n f ≡ conjoin (u .width) n f (a .0) (b .0)
-  other-step h = cond-false _ _ _ h ∙ sym (λ i. conjoin (u .width) n f (is-a i) (is-b i))
+gives-by : (g : Builder) (f : List ℕ) (o : Outcome) (r : Option Literal) (g′ : Builder) (f′ : List ℕ) → _≡_ {A = Answer} (r, g′, f′) (built g f o) → Gives (drawnBy r g′) f′ o
+gives-by g f o (Some x) g′ f′ e = by-some g f o x g′ f′ e .0
+gives-by g f o None g′ f′ e = by-none g f o g′ f′ e .0
+
+module _ (u : Parts) (vs : List ℕ) (s : Step) (n : ℕ) (f : List ℕ) (a b : Literal) (is-a : a .0 ≡ getD vs (s .first) 0) (is-b : b .0 ≡ getD vs (s .second) 0)
+    (r : Option Literal) (g′ : Builder) (f′ : List ℕ) where
+  abbrev start : Builder
+  start = record { width = u .width; count = n }
+
+  abbrev Told : Type 0
+  Told = Gives (drawnBy r g′) f′ (drawStep (u .width) (cutBy u) vs s n f) × Stays f f′
+
+  pub local-told : cutBy u .local (s .pivot) ≡ true → _≡_ {A = Answer} (r, g′, f′) (built start f (disjoin (u .width) n f (a .0) (b .0))) → Told
+  local-told h e =
+      let is : drawStep (u .width) (cutBy u) vs s n f ≡ disjoin (u .width) n f (a .0) (b .0) =
+      cond-true _ _ _ h ∙ sym (λ i. disjoin (u .width) n f (is-a i) (is-b i)) in (
+        subst (λ (o : Outcome). Gives (drawnBy r g′) f′ o) (sym is) (gives-by start f (disjoin (u .width) n f (a .0) (b .0)) r g′ f′ e),
+        or-keeps start f (u .width) n (a .0) (b .0) r g′ f′ e,
+      )
+
+  pub other-told : cutBy u .local (s .pivot) ≡ false → _≡_ {A = Answer} (r, g′, f′) (built start f (conjoin (u .width) n f (a .0) (b .0))) → Told
+  other-told h e =
+      let is : drawStep (u .width) (cutBy u) vs s n f ≡ conjoin (u .width) n f (a .0) (b .0) =
+      cond-false _ _ _ h ∙ sym (λ i. conjoin (u .width) n f (is-a i) (is-b i)) in (
+        subst (λ (o : Outcome). Gives (drawnBy r g′) f′ o) (sym is) (gives-by start f (conjoin (u .width) n f (a .0) (b .0)) r g′ f′ e),
+        and-keeps start f (u .width) n (a .0) (b .0) r g′ f′ e,
+      )
 
 -- ---- a line, where every place of the question and of the refutation counts
 module _ (u : Parts) (q t vs : List ℕ) (k n : ℕ) (f : List ℕ) (few-clauses : length q ≤ 2 ^ 28) (few-steps : length t ≤ 2 ^ 28)
@@ -205,13 +238,13 @@ module _ (w : ℕ) (u : Cut) (q t : List ℕ) (n : ℕ) (f vs : List ℕ) (few-c
         ap (λ (x : ℕ). let r : Found = (Ok (record { literal = literal x; gates = n′ }), f′, vs′) in r) is ∙ all-by (whole n′ f′ vs′) e
 
     pub all-broken : drawLines w u q t lines 0 zeros n f ≡ broken → (f′ : List ℕ) → Stays f f′ → length f′ ≡ length f → (none : List ℕ) → none ≡ cleared f′
-        → (vs′ : List ℕ) → length vs′ ≡ length vs → (zeros′ : List ℕ) → zeros′ ≡ replicate (length vs′) 0
-        → _≡_ {A = Found} (Err Formula, none, zeros′) (drawAll w u q t n f vs)
-    all-broken e f′ stays same none cleared-f′ vs′ same-values zeros′ filled′ =
+        → (vs′ : List ℕ) → length vs′ ≡ length vs → length vs ≤ 2 ^ 28 → (nones : List ℕ) → nones ≡ cleared vs′
+        → _≡_ {A = Found} (Err Formula, none, nones) (drawAll w u q t n f vs)
+    all-broken e f′ stays same none cleared-f′ vs′ same-values few nones cleared-vs′ =
         let long : length (counted f′) ≡ length (counted f) = omega (arith, length-take (2 ^ 28) f′, length-take (2 ^ 28) f) in
         let is-none : none ≡ cleared f = cleared-f′ ∙ (λ i. replicate (long i) 0 ++ stays .rest i) in
-        let is-zeros : zeros′ ≡ replicate (length vs) 0 = filled′ ∙ ap (λ (k : ℕ). replicate k 0) same-values in
-        (λ i. (Err Formula, is-none i, is-zeros i)) ∙ all-by broken e
+        let is-nones : nones ≡ replicate (length vs) 0 = cleared-vs′ ∙ cleared-whole vs′ (omega arith) ∙ ap (λ (k : ℕ). replicate k 0) same-values in
+        (λ i. (Err Formula, is-none i, is-nones i)) ∙ all-by broken e
 
 -- where of each list the front counts
 pub interpolation-by : (l q t : List ℕ) (n : ℕ) (f old : List ℕ) (u : Parts) → u ≡ partsOf l q n → (q′ t′ : List ℕ) → q′ ≡ q → t′ ≡ t

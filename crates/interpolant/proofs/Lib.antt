@@ -3,6 +3,6 @@ pub mod Separating
 mod Going
 mod Gathering
 mod Annotating
-mod Pathways
+pub mod Pathways
 mod Meanings
 mod Zeros

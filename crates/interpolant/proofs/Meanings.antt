@@ -1,5 +1,5 @@
 -- What is drawn means what it should. Assumes nothing.
-use mathlib.Core.Path.{_≡_, refl, sym, ap, subst, _∙_}
+use mathlib.Core.Path.{_≡_, sym, ap, subst, _∙_}
 use mathlib.Core.Bool.{Bool, true, false}
 use mathlib.Core.List.{List, _++_}
 use mathlib.Core.Logic.{⊎-elim}
@@ -20,8 +20,8 @@ use Rattle.question.proofs.Variables.{legal-lawful}
 use Rattle.answer.specs.Derivations.{Derives}
 use Rattle.answer.specs.Steps.{stepCount}
 use Rattle.interpolant.specs.Drawing.{Drawing, whole, broken, drawLines, Found, answered, drawAll, interpolation}
-use Rattle.interpolant.specs.Interpolation.{Cut, Parted, Partial, First, Second, lineCount}
-use Rattle.interpolant.specs.Meaning.{latchesAt, valueUnder, DrawsFormula, Annotates, Interpolant, Interpolates, IsPath, Between, LiesBetween}
+use Rattle.interpolant.specs.Interpolation.{Cut, Partial, First, Second, lineCount}
+use Rattle.interpolant.specs.Meaning.{latchesAt, valueUnder, DrawsFormula, Annotates, Interpolates, IsPath, Between, LiesBetween}
 use Rattle.interpolant.specs.Parting.{widthIn, cutOf}
 use Rattle.interpolant.specs.declared.draw.Short.{Short}
 use Rattle.interpolant.specs.declared.draw.Drawn.{Drawn}

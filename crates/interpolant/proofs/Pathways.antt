@@ -1,9 +1,9 @@
 -- The two parts of a path question: their variables, and assignments that paths give them. Assumes nothing.
 use mathlib.Core.Path.{_≡_, refl, sym, ap, subst, _∙_}
 use mathlib.Core.Bool.{Bool, true, false, _||_, _&&_}
-use mathlib.Core.List.{List, [], _∷_, _++_}
+use mathlib.Core.List.{List, []}
 use mathlib.Core.Logic.{_⊎_, inl, inr, ⊎-elim}
-use Prim.Native.Nat.{ℕ, zero, suc, _+_, _-_, _*_, _/_, _^_, _≤_, _<_}
+use Prim.Native.Nat.{ℕ, zero, suc, _+_, _-_, _*_, _/_, _≤_, _<_}
 use native.Mathlib.Nat.{one-mul}
 use native.Mathlib.Omega.{arith}
 use lib.Dec.{leb, ltb}
@@ -12,9 +12,9 @@ use Rattle.std.specs.shelf.Lists.{All}
 use Rattle.std.proofs.shelf.Bits.{mul-le}
 use Rattle.std.proofs.shelf.Elements.{all-getD}
 use Rattle.std.proofs.shelf.Lists.{length-append, getD-append-left, getD-append-right}
-use Rattle.std.proofs.shelf.Tests.{and-parts, or-cases, leb-true, ltb-true, lt-ltb}
+use Rattle.std.proofs.shelf.Tests.{and-parts, or-cases, ltb-true, lt-ltb}
 use Rattle.sheet.specs.Sheets.{Sheet, Legal, sheetOf}
-use Rattle.signal.specs.Truth.{lit, holds}
+use Rattle.signal.specs.Truth.{holds}
 use Rattle.machine.specs.Bits.{bit}
 use Rattle.machine.specs.Fits.{latchAt}
 use Rattle.machine.specs.Runs.{State, Frame, Follows, BadIn, Reaches}
@@ -24,16 +24,16 @@ use Rattle.formula.specs.Framing.{inFrame, inQuestion}
 use Rattle.question.specs.Clauses.{firstClauses, secondClauses, pathClauses}
 use Rattle.question.specs.Meaning.{isLocal, isShared, In, Proper}
 use Rattle.question.specs.Questions.{variableCount, clauseCount, firstCount, clauseOf, Clause, Mem}
-use Rattle.question.proofs.Formulae.{Rooted, nodes-rooted, rooted-value}
+use Rattle.question.proofs.Formulae.{nodes-rooted, rooted-value}
 use Rattle.question.proofs.Frames.{Held, assigned, assigned-node, assigned-literal, assigned-frame, assigned-link, assigned-formulas, assigned-formula}
 use Rattle.question.proofs.Holding.{unit-from, some-from}
 use Rattle.question.proofs.Parts.{first-whole, second-whole}
 use Rattle.question.proofs.Paths.{along, along-follows, along-last}
 use Rattle.question.proofs.Propriety.{path-proper}
 use Rattle.question.proofs.Sides.{path-sides}
-use Rattle.question.proofs.Variables.{Lawful, legal-lawful}
+use Rattle.question.proofs.Variables.{Lawful}
 use Rattle.interpolant.specs.Interpolation.{Cut, Parted, First, Second}
-use Rattle.interpolant.specs.Meaning.{latchesAt, valueUnder, IsPath, Path-parted}
+use Rattle.interpolant.specs.Meaning.{latchesAt, IsPath, Path-parted}
 use Rattle.interpolant.specs.Parting.{widthIn, cutOf}
 
 -- a legal list lays out few nodes

@@ -3,29 +3,14 @@ use mathlib.Core.Path.{_≡_, refl, sym, ap, subst, _∙_}
 use mathlib.Core.Bool.{Bool, true, false, not}
 use mathlib.Core.List.{List, [], _∷_}
 use mathlib.Core.Logic.{_⊎_, inl, inr, ⊎-elim}
-use Prim.Native.Nat.{ℕ, _+_, _*_, _/_, _%_}
+use Prim.Native.Nat.{ℕ, _+_, _*_, _/_}
 use native.Mathlib.Omega.{arith}
-use Rattle.std.proofs.shelf.Tests.{cond-true, cond-false, eq-eqb, ne-eqb, cases-eq, or-cases}
+use Rattle.std.proofs.shelf.Tests.{cases-eq, or-cases, both-ways}
 use Rattle.signal.specs.Truth.{lit, holds}
 use Rattle.question.specs.Questions.{Mem, Clause}
+use Rattle.question.proofs.Literals.{lit-next}
 use Rattle.answer.specs.Derivations.{Resolves}
 use Rattle.answer.proofs.Resolving.{once}
-
-plain : (α : ℕ → Bool) (p : ℕ) → lit α (2 * p) ≡ α p
-plain α p =
-    let r : (2 * p) % 2 ≡ 0 = omega arith in
-    let h : (2 * p) / 2 ≡ p = omega arith in
-    cond-true _ _ _ (eq-eqb _ _ r) ∙ ap α h
-
-negated : (α : ℕ → Bool) (p : ℕ) → lit α (2 * p + 1) ≡ not (α p)
-negated α p =
-    let r : (2 * p + 1) % 2 ≡ 0 → ⊥ = λ e. omega arith in
-    let h : (2 * p + 1) / 2 ≡ p = omega arith in
-    cond-false _ _ _ (ne-eqb _ _ r) ∙ ap (λ v. not (α v)) h
-
-not-both : (b : Bool) → b ≡ true → not b ≡ true → ⊥
-not-both true h k = let z : _≡_ {A = ℕ} 0 1 = cc in omega arith
-not-both false h k = let z : _≡_ {A = ℕ} 0 1 = cc in omega arith
 
 either-way : (b c : Bool) → b ≡ c → b ≡ not c → ⊥
 either-way b true h k = let z : _≡_ {A = ℕ} 0 1 = cc in omega arith
@@ -57,7 +42,9 @@ module _ (test : ℕ → Bool) (b : Bool) (α : ℕ → Bool) (xs ys : List ℕ)
       (λ (f : y / 2 ≡ p).
       let sx : x ≡ 2 * p = once xs x (2 * p) cx mx (r .opposes .0) (omega arith) in
       let sy : y ≡ 2 * p + 1 = once ys y (2 * p + 1) cy my (r .opposes .1) (omega arith) in
-      absurd (not-both (α p) (sym (plain α p) ∙ subst (λ v. lit α v ≡ true) sx tx) (sym (negated α p) ∙ subst (λ v. lit α v ≡ true) sy ty)))
+      let plain : lit α (2 * p) ≡ true = subst (λ v. lit α v ≡ true) sx tx in
+      let negated : lit α (2 * p + 1) ≡ true = subst (λ v. lit α v ≡ true) sy ty in
+      absurd (both-ways (lit α (2 * p + 1)) (lit-next α (2 * p) (omega arith) ∙ ap not plain) negated))
       (λ n. (y, r .every y (inr my) n, ly, ty))
       (cases-eq (y / 2) p))
       (λ n. (x, r .every x (inl mx) n, lx, tx))

@@ -1,5 +1,5 @@
 -- What the partial interpolants of a derivation say of its lines. Assumes nothing.
-use mathlib.Core.Path.{_≡_, refl, sym, ap, subst, _∙_}
+use mathlib.Core.Path.{_≡_, sym, ap, subst, _∙_}
 use mathlib.Core.Bool.{Bool, true, false, not, _||_, _&&_}
 use mathlib.Core.List.{List, []}
 use mathlib.Core.Logic.{_⊎_, inl, inr, ⊎-elim}
@@ -7,7 +7,7 @@ use Prim.Native.Nat.{ℕ, zero, suc, _+_, _-_, _/_, _≤_, _<_}
 use native.Mathlib.Omega.{arith}
 use Rattle.std.proofs.shelf.Tests.{cases-lt, cases-bool, and-from, and-parts, or-cases, or-left, or-right}
 use Rattle.question.specs.Questions.{clauseCount, clauseOf, Clause}
-use Rattle.answer.specs.Derivations.{Makes, Makes-all, Derives}
+use Rattle.answer.specs.Derivations.{Makes, Makes-all}
 use Rattle.answer.specs.Lines.{lineOf}
 use Rattle.answer.specs.Steps.{stepCount, stepOf}
 use Rattle.answer.proofs.Resolving.{Proper, line-given, line-derived, lines-proper}

@@ -1,4 +1,4 @@
--- Where a path question is cut in two. Its variables are those of frames, with a node each for every node of the sheet, and behind
+-- Where a path question is cut in two. Its variables are those of frames, with one for each node of the sheet, and behind
 -- the last frame those of formula gates. Assumes nothing.
 use mathlib.Core.Bool.{cond, _&&_, _||_}
 use mathlib.Core.List.{List}

@@ -75,12 +75,20 @@ fn draw(
         }
         None => {
             clear(formula);
-            values.fill(0);
+            clear(values);
             Err(Short::Formula)
         }
     }
 }
 
+// Draws the interpolant of a refutation of a path question into a formula list of `gates` gates, those that the question has.
+// Every line gets a literal as its value, in order, which is left in the line value list, with zeros behind the last:
+//   - a clause of the first part the OR of its literals of latches in frame 1, from literal 0 on, each as the latch's literal,
+//   - any other clause of the question literal 1,
+//   - a step the OR of its two lines' values if its pivot is of frame 0 or of a formula gate, else the AND.
+// The last line's value is the interpolant. Without a place for every line nothing is written; without room for a gate both
+// lists are 0. Of each list the first 2^28 places count. The sheet's counts are taken as they stand, and a number that a list
+// is too short for counts as 0.
 pub fn interpolate(
     sheet: &[u32],
     question: &[u32],
@@ -91,7 +99,7 @@ pub fn interpolate(
 ) -> Result<Drawn, Short>
     ensures draws_each_line_in_order { λ r. ⌜ (r, now (formula .exit), now («line_values» .exit)) ≡ interpolation (counted (now (sheet .entry))) (counted (now (question .entry))) (counted (now (refutation .entry))) (now (formula .entry)) gates (now («line_values» .entry)) ⌝ }
     ensures line_values_are_zero_behind_the_lines { λ r. ⌜ made r (λ _. ZeroFrom (lineCount (counted (now (question .entry))) (counted (now (refutation .entry)))) (counted (now («line_values» .exit)))) ⌝ }
-    ensures draws_a_formula { λ r. ⌜ made r (λ d. DrawsFormula (counted (now (sheet .entry))) (now (formula .entry)) gates (now (formula .exit)) d) ⌝ }
+    ensures draws_a_formula_and_keeps_the_others { λ r. ⌜ made r (λ d. DrawsFormula (counted (now (sheet .entry))) (now (formula .entry)) gates (now (formula .exit)) d) ⌝ }
     ensures gives_each_line_its_partial_interpolant { λ r. ⌜ made r (λ d. Annotates (counted (now (sheet .entry))) (counted (now (question .entry))) (counted (now (refutation .entry))) (now (formula .entry)) gates (now (formula .exit)) (now («line_values» .exit)) d) ⌝ }
     ensures separates_the_parts { λ r. ⌜ made r (λ d. Interpolates (counted (now (sheet .entry))) (counted (now (question .entry))) (counted (now (refutation .entry))) (now (formula .entry)) gates (now (formula .exit)) d) ⌝ }
     ensures lies_between_a_step_and_bad_states { λ r. ⌜ made r (λ d. LiesBetween (counted (now (sheet .entry))) (counted (now (question .entry))) (counted (now (refutation .entry))) (now (formula .entry)) gates (now (formula .exit)) d) ⌝ }

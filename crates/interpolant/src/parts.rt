@@ -1,7 +1,6 @@
-// Where a path question is cut in two. Its variables are those of frames, with a node each for every node of the sheet, and behind
+// Where a path question is cut in two. Its variables are those of frames, with one for each node of the sheet, and behind
 // the last frame those of formula gates.
 ghost use mathlib.Core.Path.{_≡_};
-ghost use Prim.Native.Nat.{_/_};
 ghost use lib.ListN.{getD};
 ghost use Rattle.lists.specs.Counted.{counted};
 ghost use Rattle.interpolant.specs.Parting.{partsOf, cutBy, latchIn};

@@ -1,6 +1,5 @@
 use mathlib.Core.Path.{refl, ap, _∙_}
 use Prim.Native.Nat.{ℕ, _+_}
-use native.Mathlib.Omega.{arith}
 use lib.ListN.{getD}
 use Rattle.interpolant.specs.Parting.{cutBy}
 use Rattle.interpolant.proofs.Going.{all-refused, all-drawn, all-broken}
@@ -24,4 +23,4 @@ returns-in-None c =
     all-broken (c .args .parts .width) (cutBy (c .args .parts)) (c .args .question .now) (c .args .refutation .now) (c .args .gates) (c .args .formula .now) (c .args .values .now) (c .pre .few-clauses)
     (c .clause-count .result + c .number-at .result) (c .clause-count .result) (c .number-at .result) refl (c .clause-count .ensures .is-the-second-number) (c .number-at .ensures) (c .if-lines-values .left)
     (c .fill .last .self) (c .fill .ensures .after (λ y e. e)) (c .in-None .ensures tt .gives) (c .draw-lines .last .formula) (c .in-None .ensures tt .keeps) (c .draw-lines .kept .formula) (c .clear .last .list) (c .clear .ensures)
-    (c .draw-lines .last .values) (c .draw-lines .kept .values ∙ c .fill .kept .self) (c .fill-in-None .last .self) (c .fill-in-None .ensures .after (λ y e. e))
+    (c .draw-lines .last .values) (c .draw-lines .kept .values ∙ c .fill .kept .self) (c .pre .few-lines) (c .clear-in-None .last .list) (c .clear-in-None .ensures)

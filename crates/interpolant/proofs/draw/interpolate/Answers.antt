@@ -22,7 +22,7 @@ returns c =
     record {
       draws-each-line-in-order = is;
       line-values-are-zero-behind-the-lines = zero-behind l q t f n old f′ vs r is;
-      draws-a-formula = draws-formula l q t f n old f′ vs r is;
+      draws-a-formula-and-keeps-the-others = draws-formula l q t f n old f′ vs r is;
       gives-each-line-its-partial-interpolant = annotates l q t f n old f′ vs r is;
       separates-the-parts = interpolates l q t f n old f′ vs r is;
       lies-between-a-step-and-bad-states = lies-between l q t f n old f′ vs r is;
