@@ -1,6 +1,9 @@
 // A walk through one real task, with all that is done printed: a new hoop driver beside an older needle board.
+use answer::refutations::check_refutation;
 use formula::start::Started;
 use formula::start::start_formula;
+use interpolant::draw::Drawn;
+use interpolant::draw::interpolate;
 use machine::simulate::simulate_bits;
 use question::build::inclusion_question;
 use question::build::path_question;
@@ -25,6 +28,104 @@ const MOST_LATCHES: usize = 24;
 const FORMULA_PLACES: usize = 64;
 
 const QUESTION_PLACES: usize = 1024;
+
+// A refutation of the path question at bound 0 of the first sheet: from no start state is a bad one reached in one step.
+const HOOP_DRIVER_REFUTED: [u32; 94] = [
+    31,
+    40,
+    18,
+    16,
+    15,
+    41,
+    10,
+    42,
+    10,
+    9,
+    43,
+    7,
+    8,
+    23,
+    20,
+    22,
+    44,
+    45,
+    5,
+    40,
+    18,
+    16,
+    15,
+    47,
+    10,
+    48,
+    10,
+    9,
+    49,
+    8,
+    8,
+    23,
+    20,
+    22,
+    50,
+    51,
+    5,
+    40,
+    18,
+    16,
+    15,
+    53,
+    10,
+    54,
+    10,
+    9,
+    55,
+    7,
+    8,
+    23,
+    20,
+    22,
+    56,
+    57,
+    5,
+    40,
+    18,
+    16,
+    15,
+    59,
+    10,
+    60,
+    11,
+    9,
+    23,
+    20,
+    22,
+    61,
+    62,
+    5,
+    40,
+    18,
+    16,
+    15,
+    64,
+    10,
+    65,
+    10,
+    9,
+    66,
+    7,
+    8,
+    23,
+    20,
+    22,
+    67,
+    68,
+    5,
+    23,
+    21,
+    22,
+    69,
+    70,
+    4,
+];
 
 // What the driver does at each step: announces a needle number, has a value to send, and the value is a thread weight. This
 // is the order of signals in which the old board takes a weight for a needle number.
@@ -148,8 +249,58 @@ fn ask(rt: &LibcRuntime, list: &[u32], formula: &[u32], start: Started) -> Resul
     )
 }
 
+// Judges a refutation of the path question at bound 0, and draws the formula that it tells: what is true after one step.
+fn judge(
+    rt: &LibcRuntime,
+    list: &[u32],
+    formula: &mut [u32],
+    start: Started,
+    refutation: &[u32],
+) -> Result<(), AnyError> {
+    let mut question = [0; QUESTION_PLACES];
+    let Some(len) = path_question(list, formula, start.count, start.literal, 0, &mut question)
+    else {
+        return Err("no room for a question".into());
+    };
+    let question = &question[0..len.min(QUESTION_PLACES)];
+    let mut work = [0; QUESTION_PLACES];
+    if let Err(fault) = check_refutation(question, refutation, &mut work) {
+        return refused(rt, fault);
+    }
+    let mut values = [0; QUESTION_PLACES];
+    let Ok(drawn) = interpolate(
+        list,
+        question,
+        refutation,
+        formula,
+        start.count,
+        &mut values,
+    ) else {
+        return Err("no room for the drawing".into());
+    };
+    show_drawn(rt, &work, refutation, drawn)
+}
+
+// Says how large a refutation was, and what was drawn from it.
+fn show_drawn(
+    rt: &LibcRuntime,
+    work: &[u32; QUESTION_PLACES],
+    refutation: &[u32],
+    drawn: Drawn,
+) -> Result<(), AnyError> {
+    let steps = refutation.first().copied().unwrap_or(0);
+    let literals = work[steps as usize % QUESTION_PLACES].saturating_sub(steps.saturating_add(1));
+    let literal = drawn.literal.number();
+    let gates = drawn.gates;
+    println!(
+        rt,
+        "  path question refuted in {steps} steps with {literals} literals; formula drawn: literal {literal}, {gates} gates"
+    )?;
+    Ok(())
+}
+
 // The start formula, and the questions that begin with it.
-fn pose(rt: &LibcRuntime, list: &[u32]) -> Result<(), AnyError> {
+fn pose(rt: &LibcRuntime, list: &[u32], refutation: &[u32]) -> Result<(), AnyError> {
     let mut formula = [0; FORMULA_PLACES];
     let Some(start) = start_formula(list, &mut formula) else {
         return Err("no room for the start formula".into());
@@ -157,10 +308,14 @@ fn pose(rt: &LibcRuntime, list: &[u32]) -> Result<(), AnyError> {
     let literal = start.literal.number();
     let gates = start.count;
     println!(rt, "  start formula: literal {literal}, {gates} gates")?;
-    ask(rt, list, &formula, start)
+    ask(rt, list, &formula, start)?;
+    if refutation.is_empty() {
+        return Ok(());
+    }
+    judge(rt, list, &mut formula, start, refutation)
 }
 
-fn walk(rt: &LibcRuntime, name: &str, latches: &str) -> Result<(), AnyError> {
+fn walk(rt: &LibcRuntime, name: &str, latches: &str, refutation: &[u32]) -> Result<(), AnyError> {
     let text = fs::read(rt, name)?;
     let mut list = [0; SHEET_PLACES];
     let places = match read(&text, &mut list) {
@@ -177,7 +332,7 @@ fn walk(rt: &LibcRuntime, name: &str, latches: &str) -> Result<(), AnyError> {
     write_back(rt, &list, &text)?;
     println!(rt, "  inputs: announce, value, weight; latches: {latches}")?;
     run(rt, &list)?;
-    pose(rt, &list)
+    pose(rt, &list, refutation)
 }
 
 fn main(rt: LibcRuntime) -> Result<(), AnyError> {
@@ -185,10 +340,20 @@ fn main(rt: LibcRuntime) -> Result<(), AnyError> {
         rt,
         "A hoop driver that also sends the thread weight, beside an older needle board:"
     )?;
-    walk(&rt, "hoop-driver.sheet", "armed, wrong")?;
+    walk(
+        &rt,
+        "hoop-driver.sheet",
+        "armed, wrong",
+        &HOOP_DRIVER_REFUTED,
+    )?;
     println!(
         rt,
         "The same pair, repaired: the driver holds a weight back while a number is pending:"
     )?;
-    walk(&rt, "hoop-driver-repaired.sheet", "armed, wrong, pending")
+    walk(
+        &rt,
+        "hoop-driver-repaired.sheet",
+        "armed, wrong, pending",
+        &[],
+    )
 }
