@@ -1,9 +1,14 @@
 // Answers: assignments and refutations that are accepted and refused.
 use answer::assignments::satisfies;
 use answer::refutations::check_refutation;
+use interpolant::draw::Short;
+use interpolant::draw::ShortDebug;
+use interpolant::draw::ShortPartialEq;
 use interpolant::draw::interpolate;
+use question::build::path_question;
 use sheet::fault::Layer;
 use sheet::fault::LayerPartialEq;
+use sheet::literal::Literal;
 use std::test::*;
 
 // The path question at bound 0 of sheets/idle-latch.sheet, from its start state.
@@ -89,7 +94,9 @@ const PRESS: [u32; 74] = [
 
 const PRESSED: [u32; 13] = [0, 1, 0, 0, 1, 0, 0, 0, 1, 1, 0, 1, 1];
 
-// That of two latches that both follow the first, and a refutation of it.
+// Two latches that both follow the first, their path question at bound 0, and a refutation of it.
+const TWO_LATCHES: [u32; 8] = [0, 2, 0, 2, 2, 0, 2, 0];
+
 const TWO: [u32; 34] = [
     7,
     11,
@@ -366,14 +373,46 @@ fn refusal_of(question: &[u32], numbers: &[u32]) -> (u32, u32) {
     }
 }
 
-// The number and the place that a refutation is refused with, the working list being zero then; zeros if it is accepted.
+// Whether each number of a list is `x`.
+fn all_are(list: &[u32], x: u32) -> bool {
+    for y in list {
+        if *y != x {
+            return false;
+        }
+    }
+    true
+}
+
+// The number and the place that a refutation is refused with, the working list being zero then; zeros if it is accepted, or
+// leaves something else.
+fn refusal_in(question: &[u32], refutation: &[u32], work: &mut [u32]) -> (u32, u32) {
+    let refusal = match check_refutation(question, refutation, work) {
+        Err(fault) if fault.layer == Layer::Refutation => (fault.number, fault.place),
+        _ => (0, 0),
+    };
+    if all_are(work, 0) { refusal } else { (0, 0) }
+}
+
 fn refusal_of_steps(question: &[u32], refutation: &[u32], room: usize) -> (u32, u32) {
     let mut work = [9; 9];
     let room = room.min(9);
-    match check_refutation(question, refutation, &mut work[0..room]) {
-        Err(fault) if fault.layer == Layer::Refutation => (fault.number, fault.place),
-        _ => (0, 0),
-    }
+    refusal_in(question, refutation, &mut work[0..room])
+}
+
+#[test]
+fn the_questions() -> Result<(), Fail> {
+    let mut list = [0; 34];
+    let r = Literal::from_number(6);
+    check_eq(
+        path_question(&TWO_LATCHES, &[5, 3], 1, r, 0, &mut list),
+        Some(34),
+    )?;
+    check(list == TWO)?;
+    let press = [1, 2, 2, 10, 8, 0, 5, 0, 7, 2, 6, 4];
+    let mut list = [0; 74];
+    let r = Literal::from_number(12);
+    check_eq(path_question(&press, &[7, 5], 1, r, 0, &mut list), Some(74))?;
+    check(list == PRESS)
 }
 
 #[test]
@@ -436,10 +475,16 @@ fn drawn() -> Result<(), Fail> {
         .ok_or("short")?;
     check_eq((drawn.literal.number(), drawn.gates), (3, 0))?;
     check_eq(values, [0, 3, 2, 0, 1, 1, 3, 3, 0])?;
-    let two = [0, 2, 0, 2, 2, 0, 2, 0];
     let mut formula = [5, 3, 0, 0, 0, 0, 0, 0];
     let mut values = [9; 17];
-    let drawn = interpolate(&two, &TWO, &TWO_REFUTED, &mut formula, 1, &mut values)
+    let drawn = interpolate(
+            &TWO_LATCHES,
+            &TWO,
+            &TWO_REFUTED,
+            &mut formula,
+            1,
+            &mut values,
+        )
         .ok()
         .ok_or("short")?;
     check_eq((drawn.literal.number(), drawn.gates), (10, 3))?;
@@ -449,11 +494,19 @@ fn drawn() -> Result<(), Fail> {
         [0, 3, 2, 5, 4, 0, 0, 0, 0, 1, 1, 9, 9, 10, 0, 10, 0],
     )?;
     let mut few = [9; 15];
-    let mut short = [5, 3, 0];
-    check(interpolate(&two, &TWO, &TWO_REFUTED, &mut short, 1, &mut values).is_err())?;
-    check_eq(short, [0; 3])?;
-    check_eq(values, [0; 17])?;
-    check(interpolate(&two, &TWO, &TWO_REFUTED, &mut formula, 1, &mut few).is_err())
+    let mut short = [5, 3, 0, 0, 0];
+    check_eq(shortage(&mut short, &mut few), Some(Short::LineValues))?;
+    check(short == [5, 3, 0, 0, 0] && few == [9; 15])?;
+    check_eq(shortage(&mut short, &mut values), Some(Short::Formula))?;
+    check(short == [0; 5] && values == [0; 17])
+}
+
+// Which list is too short for the drawing of the two latches.
+fn shortage(formula: &mut [u32], values: &mut [u32]) -> Option<Short> {
+    match interpolate(&TWO_LATCHES, &TWO, &TWO_REFUTED, formula, 1, values) {
+        Ok(_) => None,
+        Err(short) => Some(short),
+    }
 }
 
 // Variable 0, each variable implies the next, and not the last: 3,000 variables.
