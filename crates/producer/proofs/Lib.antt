@@ -1,0 +1,3 @@
+pub mod Standing
+mod Screening
+mod Replaying

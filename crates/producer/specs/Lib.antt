@@ -1,0 +1,3 @@
+pub mod Replying
+pub mod Recording
+pub mod Pairing
