@@ -139,7 +139,7 @@ module _ (q t : List ℕ) (proper : Proper q) (whole : Whole t) (d : ℕ → Lis
       (followed q t s n proper d (derives .steps) s (omega arith))
 
 -- ---- what is accepted with one working list
-ok-is : (r : Result (Unit {0}) Fault) → isOk r ≡ true → r ≡ Ok tt
+pub ok-is : (r : Result (Unit {0}) Fault) → isOk r ≡ true → r ≡ Ok tt
 ok-is (Ok x) h = refl
 ok-is (Err f) h = let z : _≡_ {A = ℕ} 0 1 = cc in absurd (omega arith)
 

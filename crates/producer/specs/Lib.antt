@@ -1,3 +1,4 @@
 pub mod Replying
 pub mod Recording
 pub mod Pairing
+pub mod Procedure
