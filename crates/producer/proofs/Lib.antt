@@ -5,3 +5,8 @@ pub mod Places
 pub mod Falsity
 pub mod Telling
 pub mod Upholding
+mod Stacks
+mod Scans
+mod Moving
+mod Ending
+mod Splitting

@@ -2,3 +2,4 @@ pub mod Replying
 pub mod Recording
 pub mod Pairing
 pub mod Procedure
+pub mod Machine

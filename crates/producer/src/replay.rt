@@ -3,12 +3,13 @@ ghost use denote.Ref.{now};
 ghost use mathlib.Core.Path.{_≡_};
 ghost use mathlib.Core.Bool.{Bool, false};
 ghost use Prim.Native.Nat.{_+_, _*_, _^_, _≤_};
-ghost use lib.ListN.{length, getD};
+ghost use lib.ListN.{length};
 ghost use Rattle.lists.specs.Counted.{counted};
 ghost use Rattle.producer.specs.Recording.{headerAt, isKind, isSound, replyOf, bodyIn, recited, replay};
 ghost use Rattle.producer.specs.Replying.{KeepsWord};
 use crate::interface::Producer;
 use crate::interface::Reply;
+use crate::reading::number_at;
 use lists::counted;
 use lists::counted_len;
 use question::read::variable_count;
@@ -19,13 +20,6 @@ pub(crate) struct Header {
     pub kind: u32,
     pub place: u32,
     pub size: u32,
-}
-
-// The number at a place of a list, and 0 past its end.
-fn number_at(list: &[u32], place: usize) -> u32
-    ensures { λ r. ⌜ r ≡ getD (now (list .entry)) place 0 ⌝ }
-{
-    if place < list.len() { list[place] } else { 0 }
 }
 
 fn read_header(tape: &[u32], i: u32) -> Header

@@ -1,0 +1,21 @@
+use mathlib.Core.Path.{_≡_, refl, sym, _∙_}
+use mathlib.Core.Logic.{_≢_}
+use Prim.Native.Nat.{ℕ, _+_, _≤_, _<_}
+use native.Mathlib.Omega.{arith}
+use borrow.Author.Count.{below-more}
+use lib.ListN.{length, getD}
+use Rattle.std.proofs.shelf.Lists.{getD-set-same, getD-set-other}
+use Rattle.producer.proofs.rows.copy_row.Needs as need
+
+pub loop-x-again : need.loop-x-again
+loop-x-again c =
+    let w = c .loop-x .work in
+    let to = c .args .to in
+    let x = c .loop-x .x in
+    let v = getD w (c .args .from + x) 0 in (
+      below-more _ _
+          (λ j h. let ne : to + j ≢ to + x = λ (e : to + j ≡ to + x). omega arith in getD-set-other w (to + x) (to + j) v 0 ne ∙ c .loop-x .inv .0 j h)
+          (getD-set-same w (to + x) v 0 (omega arith) ∙ c .loop-x .inv .2 (c .args .from + x) (omega arith)),
+      λ i h. let ne : i ≢ to + x = λ (e : i ≡ to + x). omega arith in getD-set-other w (to + x) i v 0 ne ∙ c .loop-x .inv .1 i h,
+      λ i h. let ne : i ≢ to + x = λ (e : i ≡ to + x). omega arith in getD-set-other w (to + x) i v 0 ne ∙ c .loop-x .inv .2 i h,
+    )

@@ -1,0 +1,10 @@
+use mathlib.Core.Path.{_≡_, sym, ap, _∙_}
+use native.Mathlib.Omega.{arith}
+use borrow.Author.Needs.{needs}
+use Rattle.std.proofs.shelf.Lists.{set-past}
+use Rattle.producer.specs.Machine.{finished}
+use Rattle.producer.proofs.split.finish.Needs as need
+
+pub returns-else-answer-gt0 : need.returns-else-answer-gt0
+returns-else-answer-gt0 c =
+    sym (set-past (c .args .answer .now) 0 (c .args .steps) (omega arith)) ∙ ap (finished (c .args .answer .now) (c .args .work .now) (c .args .v) (c .args .steps)) (sym (c .in-Refutation .is))
