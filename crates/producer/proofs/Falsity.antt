@@ -1,6 +1,6 @@
 -- Clauses whose literals are all false. Assumes nothing.
 use mathlib.Core.Path.{_≡_, refl, sym, ap, subst, _∙_}
-use mathlib.Core.Bool.{Bool, true, false, not}
+use mathlib.Core.Bool.{Bool, true, false, not, _&&_}
 use mathlib.Core.List.{List, [], _∷_, _++_}
 use mathlib.Core.Logic.{_⊎_, inl, inr, ⊎-elim}
 use Prim.Native.Nat.{ℕ, zero, suc, _+_, _-_, _*_, _/_, _%_, _≤_, _<_}
@@ -8,7 +8,7 @@ use native.Mathlib.Omega.{arith}
 use lib.Dec.{eqb, ltb}
 use lib.ListN.{length, getD, replicate}
 use Rattle.std.proofs.shelf.Lists.{getD-append-left, getD-append-right, getD-replicate, getD-default, getD-push, getD-past, length-push}
-use Rattle.std.proofs.shelf.Tests.{cond-both, eqb-true, eqb-false, eq-eqb, lt-ltb, and-from, and-parts, cases-order, cases-lt, cases-eq}
+use Rattle.std.proofs.shelf.Tests.{cond-both, eqb-true, eqb-false, eq-eqb, lt-ltb, and-from, and-parts, cases-order, cases-lt, cases-eq, cases-bool}
 use Rattle.std.specs.shelf.Lists.{All}
 use Rattle.std.specs.declared.option.Option.the-variants.{Some, None}
 use Rattle.signal.specs.Circuit.{clauseOf as valueOf}
@@ -19,7 +19,7 @@ use Rattle.question.specs.Questions.{variableCount, clauseCount, clauseOf, Mem,
 use Rattle.answer.specs.Joint.{union, joint}
 use Rattle.answer.specs.Derivations.{Resolves}
 use Rattle.answer.proofs.Members.{Asc, mem-union, union-mem, clause-asc, asc-union, mem-without, without-mem, asc-without}
-use Rattle.producer.specs.Procedure.{mentions, isDue, closes, lowest, lowestAt}
+use Rattle.producer.specs.Procedure.{mentions, isDue, isFalse, closes, lowest, lowestAt}
 use Rattle.producer.proofs.Places.{clause-some, last, last-in, last-highest}
 
 -- each literal is of a variable that is set, to the value that makes it false
@@ -160,6 +160,10 @@ pub false-empty : (c : List ℕ) → False [] c → c ≡ []
 false-empty [] f = refl
 false-empty (x ∷ xs) f = let z : 2 ≡ x % 2 = f x (inl refl) in absurd (omega arith)
 
+and-false : (b : Bool) → (b && false) ≡ false
+and-false true = refl
+and-false false = refl
+
 differ : true ≡ false → ⊥
 differ h = let z : _≡_ {A = ℕ} 0 1 = cc in omega arith
 
@@ -167,22 +171,51 @@ module _ (q : List ℕ) (is : IsQuestion q) where
   pub clear-none : Clear q []
   clear-none k l f = let z = ap length (false-empty (clauseOf q k) f) in let s = clause-some q is k l in omega arith
 
+  -- where the variables before the last of those set make no clause false, only a clause with that variable can be
+  abbrev pub Before : List ℕ → Type 0
+  Before a = (k : ℕ) → k < clauseCount q → (last (clauseOf q k) / 2 + 1 ≡ length a → ⊥) → False a (clauseOf q k) → ⊥
+
   -- a clause can become false only as its last literal's variable is set
-  pub clear-next : (a : List ℕ) (b m : ℕ) → length a + 1 + m ≡ variableCount q → Clear q a → lowestAt q (a ++ b ∷ []) m ≡ None → Clear q (a ++ b ∷ [])
-  clear-next a b m all clear none k l f =
+  pub before-next : (a : List ℕ) (b : ℕ) → Clear q a → Before (a ++ b ∷ [])
+  before-next a b clear k l ne f =
       let v : List ℕ = a ++ b ∷ [] in
       let c : List ℕ = clauseOf q k in
       let size : length v ≡ length a + 1 = length-push a b in
-      let some : 0 < length c = clause-some q is k l in
-      let top : last c / 2 < length v = false-set v (last c) (f (last c) (last-in c some)) in
-      let below : (x : ℕ) → Mem x c → x / 2 < length v + m = λ x i. let h : x / 2 < variableCount q = is .variables k x l i in omega arith in
-      ⊎-elim
-      (λ (e : last c / 2 + 1 ≡ length v).
-      differ (sym (false-closes v m c below (length v) some e f) ∙ lowest-none q (v ++ replicate m 2) (length v) (clauseCount q) 0 none k (omega arith) (omega arith)))
-      (λ (ne : last c / 2 + 1 ≡ length v → ⊥).
+      let top : last c / 2 < length v = false-set v (last c) (f (last c) (last-in c (clause-some q is k l))) in
       clear k l
       (false-before a b c
       (λ x i (e : x / 2 ≡ length a).
       let h : x / 2 ≤ last c / 2 = last-highest c (is .clauses k l) x i in let same : last c / 2 + 1 ≡ length v = omega arith in ne same)
-      f))
-      (cases-eq (last c / 2 + 1) (length v))
+      f)
+
+  below : (a : List ℕ) (m : ℕ) → length a + m ≡ variableCount q → (k : ℕ) → k < clauseCount q → (x : ℕ) → Mem x (clauseOf q k) → x / 2 < length a + m
+  below a m all k l x i = let h : x / 2 < variableCount q = is .variables k x l i in omega arith
+
+  pub clear-from : (a : List ℕ) (m : ℕ) → length a + m ≡ variableCount q → Before a → lowestAt q a m ≡ None → Clear q a
+  clear-from a m all before none k l f =
+      let c : List ℕ = clauseOf q k in
+      ⊎-elim
+      (λ (e : last c / 2 + 1 ≡ length a).
+      differ (sym (false-closes a m c (below a m all k l) (length a) (clause-some q is k l) e f)
+      ∙ lowest-none q (a ++ replicate m 2) (length a) (clauseCount q) 0 none k (omega arith) (omega arith)))
+      (λ ne. before k l ne f)
+      (cases-eq (last c / 2 + 1) (length a))
+
+  pub clear-next : (a : List ℕ) (b m : ℕ) → length a + 1 + m ≡ variableCount q → Clear q a → lowestAt q (a ++ b ∷ []) m ≡ None → Clear q (a ++ b ∷ [])
+  clear-next a b m all clear = clear-from (a ++ b ∷ []) m (omega (arith, length-push a b)) (before-next a b clear)
+
+  -- so it does not matter that the others are not looked at
+  pub closes-all : (a : List ℕ) (m : ℕ) → length a + m ≡ variableCount q → Before a → (k : ℕ) → k < clauseCount q →
+      closes (a ++ replicate m 2) (length a) (clauseOf q k) ≡ isFalse (a ++ replicate m 2) (clauseOf q k)
+  closes-all a m all before k l =
+      let c : List ℕ = clauseOf q k in
+      let numbers : List ℕ = a ++ replicate m 2 in
+      ⊎-elim
+      (λ (t : isFalse numbers c ≡ true).
+      let f : False a c = λ x i. sym (pad-at a m (x / 2) (below a m all k l x i)) ∙ all-mem (FalseAt numbers) c (each-false numbers c .0 t) x i in
+      ⊎-elim
+      (λ (e : last c / 2 + 1 ≡ length a). false-closes a m c (below a m all k l) (length a) (clause-some q is k l) e f ∙ sym t)
+      (λ ne. absurd (before k l ne f))
+      (cases-eq (last c / 2 + 1) (length a)))
+      (λ (t : isFalse numbers c ≡ false). ap (λ b. isDue (length a) c && b) t ∙ and-false (isDue (length a) c) ∙ sym t)
+      (cases-bool (isFalse numbers c))

@@ -5,6 +5,7 @@ pub mod Places
 pub mod Falsity
 pub mod Telling
 pub mod Upholding
+pub mod Ruling
 mod Stacks
 mod Scans
 mod Moving

@@ -225,3 +225,14 @@ splitting-upheld q n m is =
     cond-both (roomy q n m) _ _ (λ r. Upheld q (answerAt n r) m (replyAt r))
     (λ _. told-upheld q n m is (split q n (variableCount q) [] []) (told q n is))
     (λ h. subst (λ v. Wanting (variableCount q) v m) (sym (length-replicate n 0)) (close q n m is h))
+
+told-few : (q : List ℕ) (n : ℕ) → IsQuestion q → (r : End) → Told q n (variableCount q) [] [] [] r → replyAt r ≡ Refutation → stepCount (answerAt n r) < 2 ^ variableCount q
+told-few q n is (Found b) t e = let z : _≡_ {A = ℕ} 0 1 = cc in absurd (omega arith)
+told-few q n is (Closed k c ts) (es, valid, ends, grown) e = omega (arith, head q n k c ts es is valid ends, grown .short)
+told-few q n is Long t e = let z : _≡_ {A = ℕ} 0 1 = cc in absurd (omega arith)
+
+pub splitting-few : (q : List ℕ) (n m : ℕ) → IsQuestion q → replyAt (decided q n m) ≡ Refutation → stepCount (answerAt n (decided q n m)) < 2 ^ variableCount q
+splitting-few q n m is =
+    cond-both (roomy q n m) _ _ (λ r. replyAt r ≡ Refutation → stepCount (answerAt n r) < 2 ^ variableCount q)
+    (λ _. told-few q n is (split q n (variableCount q) [] []) (told q n is))
+    (λ _ e. let z : _≡_ {A = ℕ} 0 1 = cc in absurd (omega arith))

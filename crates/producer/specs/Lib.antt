@@ -3,3 +3,4 @@ pub mod Recording
 pub mod Pairing
 pub mod Procedure
 pub mod Machine
+pub mod Honesty

