@@ -1,5 +1,5 @@
 pub mod Standing
-mod Screening
+pub mod Screening
 mod Replaying
 pub mod Places
 pub mod Falsity
@@ -10,4 +10,4 @@ mod Stacks
 mod Scans
 mod Moving
 mod Ending
-mod Splitting
+pub mod Splitting

@@ -41,6 +41,7 @@ fn is_accepted(question: &[u32], answer: &[u32], work: &mut [u32], reply: Reply)
 }
 
 // Asks the first, and the second only where the first's answer is not accepted.
+#[derive(Drop)]
 pub struct Pair<A, B> {
     pub first: A,
     pub second: B,

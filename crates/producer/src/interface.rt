@@ -6,7 +6,7 @@ ghost use Rattle.producer.specs.Replying.{Replies, KeepsWord};
 
 // What a producer says of the answer that it wrote: the first places are an assignment, one for each variable; the whole list
 // is a refutation; or it has written no answer.
-#[derive(Clone, Copy)]
+#[derive(Clone, Copy, PartialEq, Eq)]
 pub enum Reply {
     Assignment,
     Refutation,
