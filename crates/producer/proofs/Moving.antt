@@ -1,11 +1,10 @@
 -- The turns of the machine. Assumes nothing.
 use mathlib.Core.Path.{_≡_, refl, sym, ap, subst, _∙_}
-use mathlib.Core.Bool.{Bool, true, false, cond}
+use mathlib.Core.Bool.{true, false, cond}
 use mathlib.Core.List.{List, [], _∷_, _++_}
-use mathlib.Core.Logic.{_⊎_, inl, inr, ⊎-elim, _≢_}
+use mathlib.Core.Logic.{_⊎_, ⊎-elim}
 use Prim.Native.Nat.{ℕ, zero, suc, _+_, _-_, _*_, _≤_, _<_}
 use native.Mathlib.Omega.{arith}
-use native.Mathlib.Numerals.{add-one}
 use lib.Dec.{eqb}
 use lib.ListN.{length, getD, set, take}
 use Rattle.std.proofs.shelf.Lists.{getD-set-same, getD-set-other}
@@ -18,9 +17,9 @@ use Rattle.producer.specs.declared.split.Move.the-variants.{On, Done}
 use Rattle.producer.specs.declared.interface.Reply.the-variants.{Assignment, Refutation, TooLong}
 use Rattle.question.specs.Questions.{clauseCount, clauseOf}
 use Rattle.answer.specs.Joint.{joint}
-use Rattle.producer.specs.Procedure.{mentions, lowest, lowestAt, End, Found, Closed, Long, fits, resolved, after-one, after-zero, closing, split, put, laid}
-use Rattle.producer.specs.Machine.{Frame, Zero, One, value, values, resume, mark, Row, Held, Holds, Agree, Turned, Unset, Joined, Going, Stood, cost, owed, ahead, turns, Moved}
-use Rattle.producer.proofs.Stacks.{row-low, row-high, holds-agree, agree-from, agree-unset, numbers-are, length-values, taken, mark-none, mark-some, mark-joint, cost-some, owed-same, owed-zero, owed-one, owed-more, cost-next}
+use Rattle.producer.specs.Procedure.{mentions, lowest, lowestAt, End, Found, Closed, Long, fits, resolved, after-zero, closing, split, put}
+use Rattle.producer.specs.Machine.{Frame, Zero, One, values, resume, mark, Row, Held, Holds, Agree, Turned, Unset, Joined, Going, Stood, cost, owed, ahead, turns, Moved}
+use Rattle.producer.proofs.Stacks.{row-low, holds-agree, agree-from, agree-unset, numbers-are, length-values, taken, mark-none, mark-some, mark-joint, cost-some, owed-same, owed-zero, owed-one, owed-more, cost-next}
 
 module _ (q : List ℕ) (n : ℕ) where
   split-closed : (m : ℕ) (a : List ℕ) (ss : List Step) (k : ℕ) → lowestAt q a m ≡ Some k → split q n m a ss ≡ Closed k (clauseOf q k) ss

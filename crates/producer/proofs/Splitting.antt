@@ -7,7 +7,7 @@ use native.Mathlib.Omega.{arith}
 use lib.ListN.{length, take, drop, length-take, length-drop, length-append}
 use Rattle.lists.specs.Counted.{counted, uncounted}
 use Rattle.lists.proofs.Taken.{take-min, drop-min, take-refronted}
-use Rattle.producer.specs.Procedure.{decided, replyAt, answerAt, splitting, splits}
+use Rattle.producer.specs.Procedure.{decided, answerAt, splitting, splits}
 use Rattle.producer.specs.Replying.{KeepsWord, Upheld}
 use Rattle.producer.specs.declared.interface.Reply.{Reply}
 use Rattle.producer.proofs.Upholding.{splitting-upheld}

@@ -1,6 +1,6 @@
 -- Stacks in the working list. Assumes nothing.
-use mathlib.Core.Path.{_≡_, refl, sym, ap, subst, _∙_}
-use mathlib.Core.Bool.{Bool, true, false, cond}
+use mathlib.Core.Path.{_≡_, refl, sym, ap, _∙_}
+use mathlib.Core.Bool.{true, false, cond}
 use mathlib.Core.List.{List, [], _∷_, _++_}
 use mathlib.Core.Logic.{_⊎_, inl, inr, ⊎-elim}
 use Prim.Native.Nat.{ℕ, zero, suc, _+_, _-_, _*_, _/_, _≤_, _<_}
@@ -10,12 +10,12 @@ use native.Mathlib.Omega.{arith}
 use lib.Dec.{eqb}
 use lib.ListN.{length, getD, take, replicate}
 use Rattle.std.proofs.shelf.Lists.{take-more, length-push, length-take-le, length-append, length-replicate, getD-take, getD-default, getD-append-left, getD-append-right, getD-replicate, same-lists}
-use Rattle.std.proofs.shelf.Tests.{cond-both, cond-true, cond-false, eq-eqb, ne-eqb, cases-eq, cases-lt, cases-bool, eqb-true}
+use Rattle.std.proofs.shelf.Tests.{cond-both, cond-true, cond-false, eq-eqb, ne-eqb, cases-eq, cases-lt, cases-bool}
 use Rattle.question.specs.Questions.{Mem}
 use Rattle.answer.specs.Joint.{union, joint}
 use Rattle.answer.proofs.Members.{mem-union, union-mem, mem-without, without-mem}
 use Rattle.producer.specs.Procedure.{mentions}
-use Rattle.producer.specs.Machine.{Frame, Zero, One, value, values, mark, Row, Held, Holds, Agree, Unset, cost, owed}
+use Rattle.producer.specs.Machine.{Frame, Zero, One, value, values, mark, Held, Holds, Agree, Unset, cost, owed}
 use Rattle.producer.proofs.Falsity.{mentioned}
 
 pub row-low : (v d : ℕ) → 2 * v ≤ (d + 2) * v

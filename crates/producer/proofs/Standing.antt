@@ -11,19 +11,19 @@ use Rattle.std.proofs.shelf.Tests.{cond-true, cond-false, lt-ltb, lt-leb, le-le
 use Rattle.std.specs.Results.{isOk}
 use Rattle.std.specs.declared.result.Result.{Result}
 use Rattle.std.specs.declared.result.Result.the-variants.{Ok, Err}
-use Rattle.lists.specs.Counted.{counted, onCounted}
+use Rattle.lists.specs.Counted.{counted}
 use Rattle.sheet.specs.Faults.{andThen, demand}
 use Rattle.sheet.specs.declared.fault.Fault.{Fault}
 use Rattle.question.specs.Questions.{variableCount, clauseCount, span, Clause, IsQuestion}
 use Rattle.answer.specs.Assignments.{judged}
-use Rattle.answer.specs.Derivations.{Resolves, Makes, Makes-all, Derives, Whole, Refutes}
+use Rattle.answer.specs.Derivations.{Resolves, Makes, Makes-all, Derives, Whole}
 use Rattle.answer.specs.Lines.{lineOf}
 use Rattle.answer.specs.Runs.{isWhole, start, opened, run, outcome, verdict, checked}
 use Rattle.answer.specs.Steps.{stepCount, stepOf, refused, lineBefore, madeBy, comeBefore, suited, onward, advanced, noted}
 use Rattle.answer.specs.declared.steps.Step.{Step}
 use Rattle.answer.proofs.Resolving.{Proper, matched-from, line-given, line-derived, lines-proper}
 use Rattle.answer.proofs.Going.{run-ok, run-err}
-use Rattle.answer.proofs.Laying.{Laid, laid-none, front-same}
+use Rattle.answer.proofs.Laying.{laid-none, front-same}
 use Rattle.answer.proofs.Refuting.{Followed, steps-more, clause-is, step-taken, taken-spans}
 use Rattle.answer.proofs.Verdicts.{accepted-refutes}
 use Rattle.producer.specs.Pairing.{screened}

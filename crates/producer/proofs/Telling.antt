@@ -1,12 +1,12 @@
 -- What the end of a branch tells. Assumes nothing.
 use mathlib.Core.Path.{_≡_, refl, sym, ap, subst, _∙_}
-use mathlib.Core.Bool.{Bool, true, false, cond, _&&_}
+use mathlib.Core.Bool.{true, false, cond}
 use mathlib.Core.List.{List, [], _∷_, _++_}
 use mathlib.Core.Logic.{_⊎_, inl, inr, ⊎-elim}
-use Prim.Native.Nat.{ℕ, zero, suc, _+_, _-_, _*_, _/_, _%_, _^_, _≤_, _<_}
+use Prim.Native.Nat.{ℕ, zero, suc, _+_, _-_, _*_, _/_, _^_, _≤_, _<_}
 use native.Mathlib.Nat.{pow-suc}
 use native.Mathlib.Omega.{arith}
-use lib.Dec.{eqb, ltb, leb}
+use lib.Dec.{eqb, leb}
 use lib.ListN.{length, getD, replicate}
 use lib.Pow.{pow-pos}
 use Rattle.std.proofs.shelf.Lists.{getD-append-left, length-push, getD-push}
@@ -18,7 +18,7 @@ use Rattle.question.specs.Questions.{variableCount, clauseCount, clauseOf, Mem,
 use Rattle.answer.specs.Joint.{joint}
 use Rattle.answer.specs.Lines.{lineOf}
 use Rattle.answer.specs.Derivations.{Resolves, Makes}
-use Rattle.producer.specs.Procedure.{mentions, closes, lowestAt, End, Found, Closed, Long, fits, resolved, after-one, after-zero, closing, split}
+use Rattle.producer.specs.Procedure.{mentions, lowestAt, End, Found, Closed, Long, fits, after-one, after-zero, closing, split}
 use Rattle.producer.proofs.Falsity.{False, closes-false, lacking, false-before, joint-false, joint-resolves, lowest-some, Clear, clear-next}
 
 -- the element i of a list that has the newest first

@@ -6,20 +6,17 @@ use mathlib.Core.Logic.{_⊎_, inl, inr, ⊎-elim, _≢_}
 use Prim.Native.Nat.{ℕ, zero, suc, _+_, _-_, _*_, _/_, _%_, _^_, _≤_, _<_}
 use native.Mathlib.Nat.{pow-suc}
 use native.Mathlib.Omega.{arith}
-use lib.Dec.{eqb, ltb, leb}
+use lib.Dec.{eqb, leb}
 use lib.ListN.{length, getD, set, take, replicate}
 use lib.Pow.{pow-pos, pow-mono}
 use Rattle.std.proofs.shelf.Lists.{take-at, getD-default, length-replicate, length-set, getD-set-same, getD-set-other}
-use Rattle.std.proofs.shelf.Tests.{cond-both, cond-true, cond-false, eq-eqb, ne-eqb, eqb-true, eqb-false, lt-ltb, le-ltb, leb-true, leb-false, and-cases, cases-lt, cases-bool}
-use Rattle.std.specs.Results.{isOk}
+use Rattle.std.proofs.shelf.Tests.{cond-both, cond-true, cond-false, eqb-true, eqb-false, lt-ltb, le-ltb, leb-false, and-cases, cases-lt, cases-bool}
 use Rattle.std.specs.shelf.Lists.{All}
-use Rattle.std.specs.declared.result.Result.{Result}
 use Rattle.std.specs.declared.result.Result.the-variants.{Ok}
-use Rattle.sheet.specs.declared.fault.Fault.{Fault}
 use Rattle.signal.specs.Truth.{lit, holds, bitsOf}
 use Rattle.question.specs.Questions.{variableCount, clauseCount, clauseOf, Mem, IsQuestion}
 use Rattle.answer.specs.Assignments.{judged}
-use Rattle.answer.specs.Derivations.{Makes, Derives, Whole}
+use Rattle.answer.specs.Derivations.{Makes, Derives}
 use Rattle.answer.specs.Lines.{lineOf}
 use Rattle.answer.specs.Runs.{checked}
 use Rattle.answer.specs.Steps.{stepCount, stepOf}
@@ -27,11 +24,11 @@ use Rattle.answer.specs.declared.steps.Step.{Step}
 use Rattle.answer.proofs.Judging.{judged-means}
 use Rattle.producer.specs.Procedure.{End, Found, Closed, Long, split, roomy, decided, put, laid, replyAt, answerAt}
 use Rattle.producer.specs.Replying.{Stands, Wanting, Upheld}
-use Rattle.producer.specs.declared.interface.Reply.the-variants.{Assignment, Refutation, TooLong}
+use Rattle.producer.specs.declared.interface.Reply.the-variants.{Refutation}
 use Rattle.producer.proofs.Falsity.{False, Clear, clear-none, false-empty}
 use Rattle.producer.proofs.Places.{few-clauses, clause-some}
 use Rattle.producer.proofs.Standing.{ok-is, derivation-stands}
-use Rattle.producer.proofs.Telling.{from-end-new, from-end-old, step-at, made-at, Valid, Ends, Grown, Bits, Told, split-told}
+use Rattle.producer.proofs.Telling.{from-end-new, from-end-old, step-at, made-at, Valid, Ends, Bits, Told, split-told}
 
 below-pow : (n : ℕ) → n < 2 ^ n
 below-pow zero = omega arith

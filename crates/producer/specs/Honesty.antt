@@ -8,7 +8,7 @@ use Rattle.std.specs.declared.option.Option.{Option}
 use Rattle.std.specs.declared.option.Option.the-variants.{Some, None}
 use Rattle.question.specs.Questions.{variableCount, clauseCount, clauseOf, IsQuestion}
 use Rattle.answer.specs.Steps.{stepCount}
-use Rattle.producer.specs.Procedure.{isFalse, End, splitBy, split, decided, replyAt, answerAt}
+use Rattle.producer.specs.Procedure.{isFalse, splitBy, split, decided, replyAt, answerAt}
 use Rattle.producer.specs.Replying.{Upheld}
 use Rattle.producer.specs.declared.interface.Reply.the-variants.{Refutation}
 

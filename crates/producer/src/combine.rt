@@ -1,6 +1,5 @@
 // Two producers, of which the first is checked.
 ghost use mathlib.Core.Path.{_≡_};
-ghost use mathlib.Core.List.{List};
 ghost use lib.ListN.{take};
 ghost use Rattle.std.specs.Results.{isOk};
 ghost use Rattle.lists.specs.Counted.{counted};

@@ -1,12 +1,11 @@
 // Answers that were written down.
 ghost use denote.Ref.{now};
 ghost use mathlib.Core.Path.{_≡_};
-ghost use mathlib.Core.Bool.{Bool, false};
-ghost use Prim.Native.Nat.{_+_, _*_, _^_, _≤_};
+ghost use mathlib.Core.Bool.{false};
+ghost use Prim.Native.Nat.{_+_, _*_, _≤_};
 ghost use lib.ListN.{length};
 ghost use Rattle.lists.specs.Counted.{counted};
 ghost use Rattle.producer.specs.Recording.{headerAt, isKind, isSound, replyOf, bodyIn, recited, replay};
-ghost use Rattle.producer.specs.Replying.{KeepsWord};
 use crate::interface::Producer;
 use crate::interface::Reply;
 use crate::reading::number_at;

@@ -5,7 +5,7 @@ ghost use mathlib.Core.List.{List, []};
 ghost use Prim.Native.Nat.{ℕ, _+_, _*_, _^_, _≤_, _<_};
 ghost use lib.ListN.{length, getD, take, replicate};
 ghost use Rattle.std.specs.declared.option.Option.the-variants.{Some, None};
-ghost use Rattle.question.specs.Questions.{variableCount, clauseCount};
+ghost use Rattle.question.specs.Questions.{variableCount};
 ghost use Rattle.producer.specs.Honesty.{Honest, Few-steps, Ends-at-once};
 ghost use Rattle.producer.specs.Machine.{Stood, Moved, Ready, finished};
 ghost use Rattle.producer.specs.Procedure.{End, Found, fits, put, split, roomy, replyAt, answerAt, splitting, splits};

@@ -1,7 +1,7 @@
-use mathlib.Core.Path.{refl, sym, subst, ap, _∙_}
-use Prim.Native.Nat.{_/_, _<_}
+use mathlib.Core.Path.{sym, _∙_}
+use Prim.Native.Nat.{_/_}
 use native.Mathlib.Omega.{arith}
-use lib.ListN.{getD, length}
+use lib.ListN.{getD}
 use Rattle.std.proofs.shelf.Lists.{set-past}
 use Rattle.producer.proofs.Scans.{mark-more, mark-all}
 use Rattle.producer.proofs.rows.mark_variables.Needs as need

@@ -1,5 +1,4 @@
-use mathlib.Core.Path.{_≡_, ap, _∙_}
-use lib.ListN.{length, replicate}
+use lib.ListN.{length}
 use Rattle.producer.proofs.Ending.{all-told}
 use Rattle.producer.proofs.split.decide.Needs as need
 

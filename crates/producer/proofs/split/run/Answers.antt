@@ -1,11 +1,7 @@
-use mathlib.Core.Path.{_≡_, sym, ap, subst, _∙_}
-use mathlib.Core.List.{[]}
+use mathlib.Core.Path.{_≡_, _∙_}
 use native.Mathlib.Omega.{arith}
 use lib.ListN.{length}
-use Rattle.producer.specs.declared.split.Move.{Move}
 use Rattle.producer.specs.declared.split.Move.the-variants.{On, Done}
-use Rattle.producer.specs.Procedure.{split}
-use Rattle.producer.specs.Machine.{Stood, Moved}
 use Rattle.producer.proofs.Ending.{start, done-reply, done-answer, moved-at}
 use Rattle.producer.proofs.split.run.Needs as need
 
