@@ -281,7 +281,7 @@ fn at_the_limit_of_bytes() -> Result<(), Fail> {
 }
 
 // The largest sheet: 24 inputs, 24 latches, 200 gates, literals up to 497, every start.
-pub fn lay_out_largest(list: &mut [u32; 452]) {
+pub(crate) fn lay_out_largest(list: &mut [u32; 452]) {
     list[0] = 24;
     list[1] = 24;
     list[2] = 200;
