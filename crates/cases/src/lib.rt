@@ -1,4 +1,5 @@
 // Worked cases, run and compared.
+#![tactic(auto)]
 
 #[cfg(test)]
 mod answering;

@@ -1,4 +1,6 @@
 // Reads a sheet on standard input, checks it with the splitting solver, and says how the check ended, or why it was refused.
+#![tactic(auto)]
+
 ghost use Rattle.std.specs.Prelude.{◌≤◌, length, IfOk};
 
 use checker::report::Report;

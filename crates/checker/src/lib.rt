@@ -1,5 +1,7 @@
 // The check of a sheet, in turns: it asks a question, is shown an assignment or weighs a refutation, and asks the next, until it
 // ends. Its states are moved values of plain numbers. Its lists are lent at each call, each as the call before left it.
+#![tactic(auto)]
+
 use sheet::fault::Fault;
 use sheet::literal::Literal;
 

@@ -1,4 +1,6 @@
 // Which places of a lent list count: the first 2^28. What lies behind them is neither read nor written.
+#![tactic(auto)]
+
 ghost use Rattle.std.specs.Prelude.{◌≡◌, ◌^◌, ◌≤◌, min, length};
 ghost use Rattle.lists.specs.Counted.{counted};
 

@@ -1,4 +1,6 @@
 // The machine that a sheet describes: its reverse depth, and its steps.
+#![tactic(auto)]
+
 ghost use Rattle.std.specs.Prelude.{◌≡◌};
 ghost use Rattle.machine.specs.Faults.{refusal};
 

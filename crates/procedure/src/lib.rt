@@ -1,4 +1,6 @@
 // The interpolation procedure of model checking, over sets of states.
+#![tactic(auto)]
+
 ghost use Rattle.procedure.specs.Happens.{Happens};
 ghost use Rattle.procedure.specs.Procedure.{ProcedureIsRight};
 

@@ -1,4 +1,6 @@
 // Questions: clauses in a lent list of numbers. Reading one, and building the three that are asked of a machine.
+#![tactic(auto)]
+
 pub mod build;
 mod gates;
 mod path;

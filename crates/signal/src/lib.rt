@@ -1,5 +1,7 @@
 // Literals, clauses and AND gates, evaluated by the same code at every kind of signal. Of each list that is lent the first
 // 2^28 places count.
+#![tactic(auto)]
+
 ghost use Rattle.std.specs.Prelude.{◌≡◌, ℕ, ◌+◌, ◌/◌, ◌<◌, ◌≤◌, Bool, true, List, ◌++◌, length, slice_index, slice_index_or};
 ghost use Rattle.lists.specs.Counted.{counted, uncounted};
 ghost use Rattle.signal.specs.Circuit.{Ops, disjunction, phased_of, literal_of, clause_of, node_of, gates_of};

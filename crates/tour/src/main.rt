@@ -1,4 +1,6 @@
 // A walk through one real task, with all that is done printed: a new hoop driver beside an older needle board.
+#![tactic(auto)]
+
 use answer::assignments::satisfies;
 use answer::refutations::check_refutation;
 use anyhow::anyhow;

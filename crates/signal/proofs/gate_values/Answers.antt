@@ -17,15 +17,15 @@ returns g c =
     let ps = counted c.args.pairs.now in
     let vs = c.args.values.now in
     let whole =
-    cut_run o (2 ^ 28) first ps vs (c.counted-len-room.result - 0) c.counted.result.now c.run-gates.new.values
-    (omega (arith, c.counted-len-room.ensures)) c.counted.ensures.value c.run-gates.ensures in
+    cut_run o (2 ^ 28) first ps vs (c.counted_len-room.result - 0) c.counted.result.now c.run_gates.new.values
+    (omega (arith, c.counted_len-room.ensures)) c.counted.ensures.value c.run_gates.ensures in
     let front = sym (cut_front o (2 ^ 28) first ps vs _ whole) in
     record {
-      runs-the-gates = whole;
-      keeps-lower-nodes = cut_keeps o (2 ^ 28) first ps vs _ whole;
-      settles-each-gate = λ ordered long. subst (λ ws. Settled o ws ps first) front (gates_settle o ps first (counted vs) ordered long);
-      covers-the-gates-of-bits = λ i bits h covered.
+      runs_the_gates = whole;
+      keeps_lower_nodes = cut_keeps o (2 ^ 28) first ps vs _ whole;
+      settles_each_gate = λ ordered long. subst (λ ws. Settled o ws ps first) front (gates_settle o ps first (counted vs) ordered long);
+      covers_the_gates_of_bits = λ i bits h covered.
           subst (λ ws. Covers may i ws (gates_of bit_ops ps first bits)) front (covers_gates may i (g.met.S.Signal.sound i h) ps first (counted vs) bits covered);
-      covers-each-assignment = λ i α h ordered gated low.
+      covers_each_assignment = λ i α h ordered gated low.
           subst (λ ws. CoversTo may i (first + length ps / 2) ws α) front (covers_gated may i (g.met.S.Signal.sound i h) α ps first (counted vs) ordered gated low);
     }

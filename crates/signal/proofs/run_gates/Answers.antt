@@ -10,7 +10,7 @@ pub loop-i-preserved : goal.loop-i-preserved
 loop-i-preserved g c =
     let more = gates_more g.S.Signal.ops c.args.pairs.now c.loop-i.i (c.args.first + c.loop-i.i) c.loop-i.values (omega arith) in
     let next : c.args.first + (c.loop-i.i + 1) ≡ c.args.first + c.loop-i.i + 1 = omega arith in
-    simp (next, c.and.ensures, c.node-of-left.ensures, c.node-of-right.ensures) (sym more ∙ c.loop-i.invariant)
+    simp (next, c.and.ensures, c.node_of-left.ensures, c.node_of-right.ensures) (sym more ∙ c.loop-i.invariant)
 
 pub returns : goal.returns
 returns g c =

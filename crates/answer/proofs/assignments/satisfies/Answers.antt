@@ -14,7 +14,7 @@ returns c =
     ∙ ap (λ v. judged v c.counted-2.result.now) c.counted.ensures.value
     ∙ ap (λ v. judged (counted q) v) c.counted-2.ensures.value in
     record {
-      judges-in-order = is;
-      accepts-exactly-satisfying-bits = judged_means (counted q) (counted numbers) _ is;
-      gives-the-reason = judged_reasoned (counted q) (counted numbers) _ is;
+      judges_in_order = is;
+      accepts_exactly_satisfying_bits = judged_means (counted q) (counted numbers) _ is;
+      gives_the_reason = judged_reasoned (counted q) (counted numbers) _ is;
     }

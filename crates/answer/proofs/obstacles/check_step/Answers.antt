@@ -7,6 +7,6 @@ pub returns : goal.returns
 returns c =
     let w = c.args.work.now in
     let at = c.args.at in
-    c.check-clauses.ensures
-    ∙ suited_is c.args.question.now w c.args.s at (sym c.come-before.ensures ∙ c.if-not-come-before.false) _ _ _
-    (take_min w at.end (c.min.result - 0) (omega (arith, c.min.ensures))) c.clause-at.ensures c.clause-at-2.ensures
+    c.check_clauses.ensures
+    ∙ suited_is c.args.question.now w c.args.s at (sym c.come_before.ensures ∙ c.if-not-come_before.false) _ _ _
+    (take_min w at.end (c.min.result - 0) (omega (arith, c.min.ensures))) c.clause_at.ensures c.clause_at-2.ensures

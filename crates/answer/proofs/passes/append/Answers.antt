@@ -22,7 +22,7 @@ returns-in-None c = λ u.
     let done = c.loop-k.invariant.0 u in
     let same = ap (λ d. held q d c.args.p) (passed_front _ _ _ w v _ _ done c.args.end c.requires.behind) in
     let here : k < length xs = omega (arith, held_length q (take c.args.end w) c.args.p c.requires.within, c.loop-k-test.true) in
-    let x = c.literal-at-x.ensures ∙ ap (λ d. get_or d k 0) same in
+    let x = c.literal_at-x.ensures ∙ ap (λ d. get_or d k 0) same in
     gets_stuck _ _ _ w v _ _ done _ (subst (λ y. Stuck c.args.pivot c.loop-k.tally v c.keep.new.work y) (sym (next_of xs u k _ here x)) (c.in-None.ensures (drop (k + 1) xs ++ u)))
 
 pub loop-k-preserved : goal.loop-k-preserved
@@ -36,7 +36,7 @@ loop-k-preserved c =
     let told = c.in-Some.ensures in
     let same = ap (λ d. held q d c.args.p) (passed_front _ _ _ w v _ _ (inv.0 []) c.args.end c.requires.behind) in
     let here : k < length xs = omega (arith, held_length q (take c.args.end w) c.args.p c.requires.within, c.loop-k-test.true) in
-    let x = c.literal-at-x.ensures ∙ ap (λ d. get_or d k 0) same in (
+    let x = c.literal_at-x.ensures ∙ ap (λ d. get_or d k 0) same in (
       λ u. goes_on _ _ _ w v _ _ (inv.0 u) _ _ _ (subst (λ y. Passed c.args.pivot c.loop-k.tally c.in-Some.next v c.keep.new.work y (drop (k + 1) xs ++ u)) (sym (next_of xs u k _ here x)) (told.0 (drop (k + 1) xs ++ u))),
       inv.1 ∙ told_more (2 * c.args.pivot) xs k _ c.loop-k.tally.plain c.in-Some.next.plain c.args.in_first here x told.1,
       inv.2 ∙ told_more (2 * c.args.pivot + 1) xs k _ c.loop-k.tally.negated c.in-Some.next.negated (not c.args.in_first) here x told.2,

@@ -9,5 +9,5 @@ invariant-loop-k l =
     let xs = held l.question (take l.end l.initial.work) l.p in
     let t = l.initial.tally in
     ((u : List ℕ) → Passed l.pivot t l.tally l.initial.work l.work (drop l.i xs ++ u) (drop l.k xs ++ u))
-    × ((t.plain || (l.in-first && has (2 * l.pivot) (drop l.i xs))) ≡ (l.tally.plain || (l.in-first && has (2 * l.pivot) (drop l.k xs))))
-    × ((t.negated || (not l.in-first && has (2 * l.pivot + 1) (drop l.i xs))) ≡ (l.tally.negated || (not l.in-first && has (2 * l.pivot + 1) (drop l.k xs))))
+    × ((t.plain || (l.in_first && has (2 * l.pivot) (drop l.i xs))) ≡ (l.tally.plain || (l.in_first && has (2 * l.pivot) (drop l.k xs))))
+    × ((t.negated || (not l.in_first && has (2 * l.pivot + 1) (drop l.i xs))) ≡ (l.tally.negated || (not l.in_first && has (2 * l.pivot + 1) (drop l.k xs))))

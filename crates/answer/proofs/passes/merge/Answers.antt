@@ -15,8 +15,8 @@ returns-in-None c =
     let ys : List ℕ = held q (take c.args.end w) c.args.second in
     let done = c.loop-i.invariant.0 in
     let same = passed_front _ _ _ w v _ _ done c.args.end (omega (arith, c.requires.behind)) in
-    let n = c.lesser-at-n.result in
-    let turn = takes_of _ _ xs ys _ _ n (ap (λ d. held q d c.args.first) same) (ap (λ d. held q d c.args.second) same) c.lesser-at-n.ensures in
+    let n = c.lesser_at-n.result in
+    let turn = takes_of _ _ xs ys _ _ n (ap (λ d. held q d c.args.first) same) (ap (λ d. held q d c.args.second) same) c.lesser_at-n.ensures in
     let u : List ℕ = union (drop n.i xs) (drop n.j ys) in
     gets_stuck _ _ _ w v _ _ done _ (subst (λ y. Stuck c.args.pivot c.loop-i.tally v c.keep.new.work y) (sym turn.next) (c.in-None.ensures u))
 
@@ -30,8 +30,8 @@ loop-i-preserved c =
     let inv = c.loop-i.invariant in
     let told = c.in-Some.ensures in
     let same = passed_front _ _ _ w v _ _ inv.0 c.args.end (omega (arith, c.requires.behind)) in
-    let n = c.lesser-at-n.result in
-    let turn = takes_of _ _ xs ys _ _ n (ap (λ d. held q d c.args.first) same) (ap (λ d. held q d c.args.second) same) c.lesser-at-n.ensures in
+    let n = c.lesser_at-n.result in
+    let turn = takes_of _ _ xs ys _ _ n (ap (λ d. held q d c.args.first) same) (ap (λ d. held q d c.args.second) same) c.lesser_at-n.ensures in
     let u : List ℕ = union (drop n.i xs) (drop n.j ys) in (
       goes_on _ _ _ w v _ _ inv.0 _ _ _ (subst (λ y. Passed c.args.pivot c.loop-i.tally c.in-Some.next v c.keep.new.work y u) (sym turn.next) (told.0 u)),
       inv.1 ∙ told_turn (2 * c.args.pivot) xs c.loop-i.i n.i n.literal c.loop-i.tally.plain c.in-Some.next.plain (not (eqb n.i c.loop-i.i)) (turn.in_first (2 * c.args.pivot)) told.1,

@@ -5,8 +5,8 @@ use Rattle.answer.proofs.Passing.{passed_front}
 use Rattle.answer.proofs.Parting.{first_stuck, both, whole}
 use Rattle.answer.proofs.passes.pass.Goals as goal
 
-pub returns-in-default-append : goal.returns-in-default-append
-returns-in-default-append c =
+pub returns-in_default-append : goal.returns-in_default-append
+returns-in_default-append c =
     let q = c.args.question.now in
     let w = c.args.work.now in
     let v = c.merge.new.work in
@@ -14,7 +14,7 @@ returns-in-default-append c =
     let met = c.in-Some.ensures in
     let same = passed_front _ _ _ w v _ _ met.0 c.args.end (omega (arith, c.requires.behind)) in
     first_stuck _ _ c.args.pivot c.args.start w v m met _
-    (subst (λ d. Taken c.args.pivot m.tally true false v c.append.new.work (drop m.i (held q d c.args.first)) None) same c.in-default-append.ensures)
+    (subst (λ d. Taken c.args.pivot m.tally true false v c.append.new.work (drop m.i (held q d c.args.first)) None) same c.in_default-append.ensures)
 
 pub returns : goal.returns
 returns c =

@@ -15,19 +15,19 @@ returns c =
     let w = c.args.work.now in
     let m = counted w in
     let whole =
-    cut_check q t w (c.counted-len-room.result - 0) c.counted.result.now c.counted-2.result.now c.check-counted.new.work c.check-counted.result
-    (omega (arith, c.counted-len-room.ensures)) c.counted.ensures.value c.counted-2.ensures.value c.check-counted.ensures.answers
-    c.check-counted.ensures.leaves in
+    cut_check q t w (c.counted_len-room.result - 0) c.counted.result.now c.counted-2.result.now c.check_counted.new.work c.check_counted.result
+    (omega (arith, c.counted_len-room.ensures)) c.counted.ensures.value c.counted-2.ensures.value c.check_counted.ensures.answers
+    c.check_counted.ensures.leaves in
     let answer = cut_answer q t w _ _ whole in
     let list = sym (cut_list q t w _ _ whole) in
-    let accepted = λ (ok : is_ok c.check-counted.result ≡ true). ap is_ok (sym answer) ∙ ok in
+    let accepted = λ (ok : is_ok c.check_counted.result ≡ true). ap is_ok (sym answer) ∙ ok in
     record {
-      checks-each-step-in-order = whole;
-      accepts-exactly-refutations = λ is. subst (λ r. Decides (is_ok r) (Refutes q t (length m))) (sym answer) (accepts_exactly q t m is);
-      derives-the-lines = λ is ok. subst (λ v. Derives q t (span v)) list (accepted_derives q t m (accepted ok) is);
-      lays-the-lines-out = λ ok. subst (λ v. Lays (step_count t) v) list (accepted_lays q t m (accepted ok));
-      gives-the-reason = λ is. subst (RefutationReasoned q t (length m)) (sym answer) (check_reasoned q t m is);
-      clears-the-working-list-if-refused = λ refused. sym list ∙ refused_cleared q t m (ap is_ok (sym answer) ∙ refused);
+      checks_each_step_in_order = whole;
+      accepts_exactly_refutations = λ is. subst (λ r. Decides (is_ok r) (Refutes q t (length m))) (sym answer) (accepts_exactly q t m is);
+      derives_the_lines = λ is ok. subst (λ v. Derives q t (span v)) list (accepted_derives q t m (accepted ok) is);
+      lays_the_lines_out = λ ok. subst (λ v. Lays (step_count t) v) list (accepted_lays q t m (accepted ok));
+      gives_the_reason = λ is. subst (RefutationReasoned q t (length m)) (sym answer) (check_reasoned q t m is);
+      clears_the_working_list_if_refused = λ refused. sym list ∙ refused_cleared q t m (ap is_ok (sym answer) ∙ refused);
       refutes = λ is ok. accepted_unsatisfiable q t m (accepted ok) is;
-      a-step-that-cancels-two-variables-is-refused = λ i is two. answer ∙ cancels_two_refused q t m i is two;
+      a_step_that_cancels_two_variables_is_refused = λ i is two. answer ∙ cancels_two_refused q t m i is two;
     }

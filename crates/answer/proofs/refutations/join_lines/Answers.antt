@@ -17,14 +17,14 @@ returns c =
     let told = c.join.ensures in
     let xs = line_before q w end s.first in
     let ys = held q (take end w) c.locate-second.result in
-    let a = front_lies q w end s.first c.locate-first.result c.locate-first.ensures.is-the-line in
-    let b = front_lies q w end s.second c.locate-second.result c.locate-second.ensures.is-the-line in
+    let a = front_lies q w end s.first c.locate-first.result c.locate-first.ensures.is_the_line in
+    let b = front_lies q w end s.second c.locate-second.result c.locate-second.ensures.is_the_line in
     record {
-      says-where =
-          told.says-where
+      says_where =
+          told.says_where
           ∙ ap (λ v. joined (length w) end v ys s.pivot) a
           ∙ ap (λ v. joined (length w) end xs v s.pivot) b
-          ∙ sym (cond-true _ _ _ (sym c.come-before.ensures ∙ c.if-not-come-before.false));
+          ∙ sym (cond-true _ _ _ (sym c.come_before.ensures ∙ c.if-not-come_before.false));
       writes = λ h. told.writes h ∙ ap (λ v. sets w end (joint v ys s.pivot)) a ∙ ap (λ v. sets w end (joint xs v s.pivot)) b;
-      keeps-the-front = told.keeps-the-front;
+      keeps_the_front = told.keeps_the_front;
     }

@@ -4,10 +4,10 @@ use Rattle.answer.specs.Steps.{step_of}
 use Rattle.answer.proofs.Going.{advanced_ok, run_ok, run_err}
 use Rattle.answer.proofs.refutations.take_steps.Goals as goal
 
-pub returns-in-err-at : goal.returns-in-err-at
-returns-in-err-at c =
+pub returns-in_err-at : goal.returns-in_err-at
+returns-in_err-at c =
     let p = err_from_is_err_and c.from-residual.result c.from-residual.ensures.1 in
-    let told = c.in-err-at.ensures.goes_on in
+    let told = c.in_err-at.ensures.goes_on in
     let e =
     sym c.loop-at.invariant.2
     ∙ run_err c.args.question.now c.args.refutation.now c.loop-at.work c.args.steps c.loop-at.at c.loop-at-test.true _ told in
@@ -19,7 +19,7 @@ loop-at-preserved c =
     let t = c.args.refutation.now in
     let w = c.loop-at.work in
     let at = c.loop-at.at in
-    let told = c.in-ok-at.ensures in
+    let told = c.in_ok-at.ensures in
     let next = advanced_ok q w (step_of t at.step) at _ (sym told.goes_on) in
     let step = ap (λ p. p.step) next.1 in
     let end = ap (λ p. p.end) next.1 in (

@@ -9,12 +9,12 @@ returns c =
     let l = c.args.sheet.now in
     let a = c.args.self in
     let xs = c.args.assignment.now in
-    let x : Lists = lists c.args.formula.now c.args.line-values.now c.args.question.now in
-    let x' : Lists = lists c.judge-assignment.new.formula c.judge-assignment.new.values c.judge-assignment.new.question in
-    let r = c.judge-assignment.result in
+    let x : Lists = lists c.args.formula.now c.args.line_values.now c.args.question.now in
+    let x' : Lists = lists c.judge_assignment.new.formula c.judge_assignment.new.values c.judge_assignment.new.question in
+    let r = c.judge_assignment.result in
     record {
-      moves-by-the-rules = c.judge-assignment.ensures;
-      the-series-goes-on = by_show l a xs x r x' c.judge-assignment.ensures;
-      fewer-answers-are-left = by_shown l a xs x r x' (omega arith) c.judge-assignment.ensures;
-      answers-in-the-procedure = shown_answers l a xs x r x' c.judge-assignment.ensures;
+      moves_by_the_rules = c.judge_assignment.ensures;
+      the_series_goes_on = by_show l a xs x r x' c.judge_assignment.ensures;
+      fewer_answers_are_left = by_shown l a xs x r x' (omega arith) c.judge_assignment.ensures;
+      answers_in_the_procedure = shown_answers l a xs x r x' c.judge_assignment.ensures;
     }

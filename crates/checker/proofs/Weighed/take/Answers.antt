@@ -9,13 +9,13 @@ returns c =
     let l = c.args.sheet.now in
     let d = c.args.self in
     let t = c.args.refutation.now in
-    let x : Lists = lists c.args.formula.now c.args.line-values.now c.args.question.now in
+    let x : Lists = lists c.args.formula.now c.args.line_values.now c.args.question.now in
     let x' : Lists = lists c.moved.new.formula c.moved.new.values c.moved.new.question in
     let m = c.moved.result in
     let is = c.moved.ensures in
     record {
-      moves-by-the-rules = is;
-      the-series-goes-on = by_take l d t x m x' is;
-      fewer-answers-are-left = by_taken l d t x m x' (grind arith) is;
-      answers-in-the-procedure = taken_answers l d t x m x' is;
+      moves_by_the_rules = is;
+      the_series_goes_on = by_take l d t x m x' is;
+      fewer_answers_are_left = by_taken l d t x m x' (grind arith) is;
+      answers_in_the_procedure = taken_answers l d t x m x' is;
     }

@@ -5,29 +5,29 @@ use Rattle.formula.specs.Built.{size_of_start}
 use Rattle.checker.proofs.Beginning.{unstarted, unasked, fits, fits_question}
 use Rattle.checker.proofs.calls.open_check.Goals as goal
 
-pub returns-then-counted-len-gates : goal.returns-then-counted-len-gates
-returns-then-counted-len-gates c =
+pub returns-then-counted_len-gates : goal.returns-then-counted_len-gates
+returns-then-counted_len-gates c =
     unstarted c.args.sheet.now c.args.limits.bound c.args.limits.turns c.args.formula.now c.args.question.now
-    c.if-not-is-legal.ensures.is-the-test (omega arith) (omega arith) (omega arith) c.unopened-then-counted-len-gates.result
-    c.unopened-then-counted-len-gates.ensures c.start-size-gates.result c.counted-len.result c.start-size-gates.ensures.counts-the-gates
-    c.counted-len.ensures c.if-counted-len-gates.true
+    c.if-not-is_legal.ensures.is_the_test (omega arith) (omega arith) (omega arith) c.unopened-then-counted_len-gates.result
+    c.unopened-then-counted_len-gates.ensures c.start_size-gates.result c.counted_len.result c.start_size-gates.ensures.counts_the_gates
+    c.counted_len.ensures c.if-counted_len-gates.true
 
-pub returns-then-counted-len-start-question-size : goal.returns-then-counted-len-start-question-size
-returns-then-counted-len-start-question-size c =
+pub returns-then-counted_len-start_question_size : goal.returns-then-counted_len-start_question_size
+returns-then-counted_len-start_question_size c =
     unasked c.args.sheet.now c.args.limits.bound c.args.limits.turns c.args.formula.now c.args.question.now
-    c.if-not-is-legal.ensures.is-the-test (omega arith) (omega arith) (omega arith) c.unopened-then-counted-len-start-question-size.result
-    c.unopened-then-counted-len-start-question-size.ensures c.start-size-gates.result c.counted-len.result c.start-size-gates.ensures.counts-the-gates
-    c.counted-len.ensures c.if-counted-len-gates.false c.start-question-size.result c.counted-len-2.result c.start-question-size.ensures
-    c.counted-len-2.ensures c.if-counted-len-start-question-size.true
+    c.if-not-is_legal.ensures.is_the_test (omega arith) (omega arith) (omega arith) c.unopened-then-counted_len-start_question_size.result
+    c.unopened-then-counted_len-start_question_size.ensures c.start_size-gates.result c.counted_len.result c.start_size-gates.ensures.counts_the_gates
+    c.counted_len.ensures c.if-counted_len-gates.false c.start_question_size.result c.counted_len-2.result c.start_question_size.ensures
+    c.counted_len-2.ensures c.if-counted_len-start_question_size.true
 
 pub begin-requires : goal.begin-requires
 begin-requires c =
     record {
-      legal = well_formed_legal (counted c.args.sheet.now) (sym c.if-not-is-legal.ensures.is-the-test);
+      legal = well_formed_legal (counted c.args.sheet.now) (sym c.if-not-is_legal.ensures.is_the_test);
       room =
-          fits c.args.formula.now (2 * c.start-size-gates.result) (2 * size_of_start (counted c.args.sheet.now)) c.counted-len.result
-          (ap (λ (n : ℕ). 2 * n) c.start-size-gates.ensures.counts-the-gates) c.counted-len.ensures c.if-counted-len-gates.false;
+          fits c.args.formula.now (2 * c.start_size-gates.result) (2 * size_of_start (counted c.args.sheet.now)) c.counted_len.result
+          (ap (λ (n : ℕ). 2 * n) c.start_size-gates.ensures.counts_the_gates) c.counted_len.ensures c.if-counted_len-gates.false;
       space =
-          fits_question c.args.sheet.now c.args.question.now c.start-size-gates.result c.start-question-size.result c.counted-len-2.result
-          c.start-size-gates.ensures.counts-the-gates c.start-question-size.ensures c.counted-len-2.ensures c.if-counted-len-start-question-size.false;
+          fits_question c.args.sheet.now c.args.question.now c.start_size-gates.result c.start_question_size.result c.counted_len-2.result
+          c.start_size-gates.ensures.counts_the_gates c.start_question_size.ensures c.counted_len-2.ensures c.if-counted_len-start_question_size.false;
     }

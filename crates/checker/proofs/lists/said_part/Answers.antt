@@ -3,5 +3,5 @@ use Rattle.checker.proofs.lists.said_part.Goals as goal
 
 pub returns : goal.returns
 returns c =
-    said_by c.args.refutation.now c.counted-refutation.result.now c.number-at.result c.min.result c.counted-refutation.ensures.value
-    c.number-at.ensures c.min.ensures
+    said_by c.args.refutation.now c.counted-refutation.result.now c.number_at.result c.min.result c.counted-refutation.ensures.value
+    c.number_at.ensures c.min.ensures

@@ -10,8 +10,8 @@ offset-bounds-run-at c =
     let fits = row_fits c.loop-frame.frame (c.args.steps + 1) (latch_count l + input_count l) c.loop-frame-test.true in
     search rules
 
-pub slice-bounds-write-frame-end : goal.slice-bounds-write-frame-end
-slice-bounds-write-frame-end c =
+pub slice-bounds-write_frame-end : goal.slice-bounds-write_frame-end
+slice-bounds-write_frame-end c =
     let l = c.args.sheet.now in
     let fits = row_fits c.loop-frame.frame (c.args.steps + 1) (latch_count l + input_count l) c.loop-frame-test.true in
     search rules
@@ -22,13 +22,13 @@ loop-frame-preserved c =
     let size = latch_count l + input_count l in
     let fits = row_fits c.loop-frame.frame (c.args.steps + 1) size c.loop-frame-test.true in
     let f = frame_numbers (sheet_of l) c.args.assignment.now in
-    run_more f c.loop-frame.run c.write-frame.new.part c.loop-frame.frame size (c.loop-frame.frame * size + size - c.loop-frame.frame * size) c.loop-frame.invariant
-    c.write-frame.ensures (ap length c.write-frame.ensures ∙ length_frame (sheet_of l) c.args.assignment.now c.loop-frame.frame) (omega arith)
+    run_more f c.loop-frame.run c.write_frame.new.part c.loop-frame.frame size (c.loop-frame.frame * size + size - c.loop-frame.frame * size) c.loop-frame.invariant
+    c.write_frame.ensures (ap length c.write_frame.ensures ∙ length_frame (sheet_of l) c.args.assignment.now c.loop-frame.frame) (omega arith)
 
 pub returns : goal.returns
 returns c =
     let l = c.args.sheet.now in
     let size = latch_count l + input_count l in
     let f = frame_numbers (sheet_of l) c.args.assignment.now in
-    run_done f c.args.run.now c.loop-frame.run c.fill.new.self (c.args.steps + 1) c.loop-frame.frame size c.run-size-end.result
-    (length c.loop-frame.run) (omega arith) c.loop-frame.invariant c.run-size-end.ensures (omega arith) (omega arith) (omega arith) (c.fill.ensures.after (λ y e. e))
+    run_done f c.args.run.now c.loop-frame.run c.fill.new.self (c.args.steps + 1) c.loop-frame.frame size c.run_size-end.result
+    (length c.loop-frame.run) (omega arith) c.loop-frame.invariant c.run_size-end.ensures (omega arith) (omega arith) (omega arith) (c.fill.ensures.after (λ y e. e))

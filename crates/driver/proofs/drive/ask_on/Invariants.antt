@@ -10,8 +10,8 @@ use Rattle.driver.proofs.drive.ask_on.Given as goal
 abbrev pub invariant-loop-moved : goal.invariant-loop-moved
 invariant-loop-moved g l =
     (o : Result Ended Refused) (x : Lists) (b w : List ℕ) (s : _)
-    → Driven (Marked g.P.Producer.replies g.P.Producer.honest) l.sheet l.asked (lists l.formula l.line-values l.question) l.answer l.work l.producer o x b w s
-    → Driven (Marked g.P.Producer.replies g.P.Producer.honest) l.sheet l.initial.asked (lists l.initial.formula l.initial.line-values l.initial.question) l.initial.answer l.initial.work l.initial.producer o x b w s
+    → Driven (Marked g.P.Producer.replies g.P.Producer.honest) l.sheet l.asked (lists l.formula l.line_values l.question) l.answer l.work l.producer o x b w s
+    → Driven (Marked g.P.Producer.replies g.P.Producer.honest) l.sheet l.initial.asked (lists l.initial.formula l.initial.line_values l.initial.question) l.initial.answer l.initial.work l.initial.producer o x b w s
 
 abbrev pub decreases-loop-moved : goal.decreases-loop-moved
 decreases-loop-moved g l = answers_left l.asked

@@ -8,12 +8,12 @@ returns g c =
     let honest = g.P.Producer.honest in
     let l = c.args.sheet.now in
     let a = c.args.asked in
-    let x : Lists = lists c.args.formula.now c.args.line-values.now c.args.question.now in
-    let x' : Lists = lists c.ask-on.new.formula c.ask-on.new.line-values c.ask-on.new.question in
+    let x : Lists = lists c.args.formula.now c.args.line_values.now c.args.question.now in
+    let x' : Lists = lists c.ask_on.new.formula c.ask_on.new.line_values c.ask_on.new.question in
     record {
-      is-driven = c.ask-on.ensures;
-      the-guarantee = λ K Q n s.
+      is_driven = c.ask_on.ensures;
+      the_guarantee = λ K Q n s.
           guarantee R honest l K Q _
-          (drive_is_one R honest l K Q a x c.args.answer.now c.args.work.now c.args.producer.now c.ask-on.result x' c.ask-on.new.answer c.ask-on.new.work
-          c.ask-on.new.producer c.ask-on.ensures n s);
+          (drive_is_one R honest l K Q a x c.args.answer.now c.args.work.now c.args.producer.now c.ask_on.result x' c.ask_on.new.answer c.ask_on.new.work
+          c.ask_on.new.producer c.ask_on.ensures n s);
     }

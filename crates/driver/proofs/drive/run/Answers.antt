@@ -4,6 +4,6 @@ use Rattle.driver.proofs.drive.run.Goals as goal
 pub returns : goal.returns
 returns g c =
     record {
-      the-guarantee =
-          guarantee g.P.Producer.replies g.P.Producer.honest c.args.sheet.now c.args.step-limit c.args.turn_limit _ c.open-and-drive.ensures;
+      the_guarantee =
+          guarantee g.P.Producer.replies g.P.Producer.honest c.args.sheet.now c.args.step_limit c.args.turn_limit _ c.open_and_drive.ensures;
     }

@@ -6,9 +6,9 @@ use Rattle.driver.proofs.text.ended_text.Goals as goal
 
 pub returns-in-Ok : goal.returns-in-Ok
 returns-in-Ok c =
-    let said : string_bytes c.write-run.new.text ≡ ended_text c.args.report c.args.sheet.now c.args.run.now = search rules in
+    let said : string_bytes c.write_run.new.text ≡ ended_text c.args.report c.args.sheet.now c.args.run.now = search rules in
     record {
-      says-exactly-this = said;
-      tells-the-report = tells_report c.args.report c.args.sheet.now c.args.run.now _ (search rules) (search rules) said;
-      shows-each-frame = shows_run c.args.report c.args.sheet.now c.args.run.now _ said;
+      says_exactly_this = said;
+      tells_the_report = tells_report c.args.report c.args.sheet.now c.args.run.now _ (search rules) (search rules) said;
+      shows_each_frame = shows_run c.args.report c.args.sheet.now c.args.run.now _ said;
     }

@@ -6,23 +6,23 @@ use Rattle.interpolant.proofs.lines.draw_line.Goals as goal
 
 pub returns-then-line-clauses : goal.returns-then-line-clauses
 returns-then-line-clauses c =
-    let is = line_step c.args.parts c.args.question.now c.args.refutation.now c.args.values.now c.args.line c.args.gates c.args.formula.now c.requires.few_clauses c.requires.few-steps c.clause-count-clauses.result c.clause-count-clauses.ensures.is-the-second-number c.if-line-clauses.true c.step-at-step.result c.step-at-step.ensures.is-the-step in
+    let is = line_step c.args.parts c.args.question.now c.args.refutation.now c.args.values.now c.args.line c.args.gates c.args.formula.now c.requires.few_clauses c.requires.few_steps c.clause_count-clauses.result c.clause_count-clauses.ensures.is_the_second_number c.if-line-clauses.true c.step_at-step.result c.step_at-step.ensures.is_the_step in
     record {
-      gives = subst (λ (o : Outcome). Gives c.draw-step.result c.draw-step.new.formula o) (sym is) c.draw-step.ensures.gives;
-      keeps = c.draw-step.ensures.keeps;
+      gives = subst (λ (o : Outcome). Gives c.draw_step.result c.draw_step.new.formula o) (sym is) c.draw_step.ensures.gives;
+      keeps = c.draw_step.ensures.keeps;
     }
 
 pub returns-then-line-parts : goal.returns-then-line-parts
 returns-then-line-parts c =
     record {
-      gives = line_second c.args.parts c.args.question.now c.args.refutation.now c.args.values.now c.args.line c.args.gates c.args.formula.now c.requires.few_clauses c.requires.few-steps c.clause-count-clauses.result c.clause-count-clauses.ensures.is-the-second-number c.if-line-clauses.false c.if-line-parts.true c.from-number.result.0 c.from-number.ensures;
+      gives = line_second c.args.parts c.args.question.now c.args.refutation.now c.args.values.now c.args.line c.args.gates c.args.formula.now c.requires.few_clauses c.requires.few_steps c.clause_count-clauses.result c.clause_count-clauses.ensures.is_the_second_number c.if-line-clauses.false c.if-line-parts.true c.from_number.result.0 c.from_number.ensures;
       keeps = stays_refl c.args.formula.now;
     }
 
 pub returns : goal.returns
 returns c =
-    let is = line_first c.args.parts c.args.question.now c.args.refutation.now c.args.values.now c.args.line c.args.gates c.args.formula.now c.requires.few_clauses c.requires.few-steps c.clause-count-clauses.result c.clause-count-clauses.ensures.is-the-second-number c.if-line-clauses.false c.if-line-parts.false c.clause.result.now c.clause.ensures.is-the-clause in
+    let is = line_first c.args.parts c.args.question.now c.args.refutation.now c.args.values.now c.args.line c.args.gates c.args.formula.now c.requires.few_clauses c.requires.few_steps c.clause_count-clauses.result c.clause_count-clauses.ensures.is_the_second_number c.if-line-clauses.false c.if-line-parts.false c.clause.result.now c.clause.ensures.is_the_clause in
     record {
-      gives = subst (λ (o : Outcome). Gives c.draw-clause.result c.draw-clause.new.formula o) (sym is) c.draw-clause.ensures.gives;
-      keeps = c.draw-clause.ensures.keeps;
+      gives = subst (λ (o : Outcome). Gives c.draw_clause.result c.draw_clause.new.formula o) (sym is) c.draw_clause.ensures.gives;
+      keeps = c.draw_clause.ensures.keeps;
     }

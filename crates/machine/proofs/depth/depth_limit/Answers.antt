@@ -8,14 +8,14 @@ use Rattle.machine.proofs.Depths.{has_reverse_depth, depth_low}
 use Rattle.machine.proofs.Reaching.{bad_runs}
 use Rattle.machine.proofs.depth.depth_limit.Goals as goal
 
-pub returns-then-not-is-legal : goal.returns-then-not-is-legal
-returns-then-not-is-legal c =
+pub returns-then-not-is_legal : goal.returns-then-not-is_legal
+returns-then-not-is_legal c =
     record {
-      is-the-number-of-states =
-          rw c.refuse.ensures (sym (cond-false _ _ _ (sym c.is-legal.ensures.is-the-test ∙ c.if-not-is-legal.true)));
-      each-sheet-has-exactly-one-depth = has_reverse_depth;
-      bad-runs-need-no-more-steps = bad_runs;
-      limits-the-reverse-depth = tt;
+      is_the_number_of_states =
+          rw c.refuse.ensures (sym (cond-false _ _ _ (sym c.is_legal.ensures.is_the_test ∙ c.if-not-is_legal.true)));
+      each_sheet_has_exactly_one_depth = has_reverse_depth;
+      bad_runs_need_no_more_steps = bad_runs;
+      limits_the_reverse_depth = tt;
     }
 
 -- 1 shifted by at most 24 bits
@@ -27,12 +27,12 @@ shifted n few =
 pub returns : goal.returns
 returns c =
     let l : List ℕ = counted c.args.sheet.now in
-    let legal : Legal l = c.is-legal.ensures.decides-legal.0 c.if-not-is-legal.false in
+    let legal : Legal l = c.is_legal.ensures.decides_legal.0 c.if-not-is_legal.false in
     let power : 1 * 2 ^ latch_count c.counted.result.now % 2 ^ 32 ≡ 2 ^ latch_count l =
     ap (λ k. 1 * 2 ^ latch_count k % 2 ^ 32) c.counted.ensures.value ∙ shifted (latch_count l) legal.few_latches in
     record {
-      is-the-number-of-states = ap (λ n. Ok n) power ∙ sym (cond-true _ _ _ (legal_well_formed l legal));
-      each-sheet-has-exactly-one-depth = has_reverse_depth;
-      bad-runs-need-no-more-steps = bad_runs;
-      limits-the-reverse-depth = λ depth is. rw power (depth_low (sheet_of l) depth is);
+      is_the_number_of_states = ap (λ n. Ok n) power ∙ sym (cond-true _ _ _ (legal_well_formed l legal));
+      each_sheet_has_exactly_one_depth = has_reverse_depth;
+      bad_runs_need_no_more_steps = bad_runs;
+      limits_the_reverse_depth = λ depth is. rw power (depth_low (sheet_of l) depth is);
     }

@@ -10,8 +10,8 @@ loop-i-preserved g c =
     let o = g.S.Signal.ops in
     let next : ℕ → g.row.S.Denot = λ k. node_of o c.args.nodes.now (next_of c.args.sheet.now k) in
     let i = c.loop-i.i in
-    let here : c.literal-signal.result ≡ next i =
-    rw (c.literal-signal.ensures, c.literal-at.ensures) in
+    let here : c.literal_signal.result ≡ next i =
+    rw (c.literal_signal.ensures, c.literal_at.ensures) in
     let within : i < length c.loop-i.state = omega arith in
     rw here (fill_by_more next c.loop-i.state i (o.known false) within c.loop-i.invariant)
 

@@ -4,9 +4,9 @@ use Rattle.machine.proofs.simulate.simulate_bits.Goals as goal
 
 pub returns : goal.returns
 returns c =
-    let is = c.simulate.ensures.steps-by-the-gate-values in
+    let is = c.simulate.ensures.steps_by_the_gate_values in
     record {
-      steps-by-the-gate-values = is;
-      is-a-step-of-the-machine =
+      steps_by_the_gate_values = is;
+      is_a_step_of_the_machine =
           lent_step (counted c.args.sheet.now) c.args.inputs.now c.args.state.now c.simulate.result c.simulate.new.state is;
     }

@@ -14,11 +14,11 @@ returns g c =
     let n : ℕ = 1 + length inputs + length state + gate_count l - 0 in
     let fed : c.feed.new.nodes ≡ fed_signals o l inputs state =
     c.feed.ensures ∙ fed_by o l inputs state (take n c.args.scratch.now) n (omega arith) (omega arith) (ap (λ zs. take n zs) c.requires.blank) in
-    let run : c.gate-values.new.values ≡ node_signals o l inputs state =
-    run_by o l c.gate-operands.result.now inputs state c.feed.new.nodes c.gate-values.new.values (1 + length inputs + length state)
-    c.requires.legal c.requires.inputs c.requires.latches (omega arith) c.gate-operands.ensures fed c.gate-values.ensures.runs-the-gates in
-    let bad : c.literal-signal.result ≡ node_of o (node_signals o l inputs state) (bad_of l) =
-    c.literal-signal.ensures ∙ ap (node_of o c.gate-values.new.values) c.literal-at.ensures ∙ ap (λ vs. node_of o vs (bad_of l)) run in
-    let next : c.set-latches.new.state ≡ next_signals o l (node_signals o l inputs state) =
-    c.set-latches.ensures ∙ ap (next_signals o l) run in
+    let run : c.gate_values.new.values ≡ node_signals o l inputs state =
+    run_by o l c.gate_operands.result.now inputs state c.feed.new.nodes c.gate_values.new.values (1 + length inputs + length state)
+    c.requires.legal c.requires.inputs c.requires.latches (omega arith) c.gate_operands.ensures fed c.gate_values.ensures.runs_the_gates in
+    let bad : c.literal_signal.result ≡ node_of o (node_signals o l inputs state) (bad_of l) =
+    c.literal_signal.ensures ∙ ap (node_of o c.gate_values.new.values) c.literal_at.ensures ∙ ap (λ vs. node_of o vs (bad_of l)) run in
+    let next : c.set_latches.new.state ≡ next_signals o l (node_signals o l inputs state) =
+    c.set_latches.ensures ∙ ap (next_signals o l) run in
     rw (bad, next)

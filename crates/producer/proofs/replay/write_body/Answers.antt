@@ -4,5 +4,5 @@ use Rattle.producer.proofs.replay.write_body.Goals as goal
 
 pub returns : goal.returns
 returns c =
-    body_written c.args.tape.now c.copy-from-slice.new.self c.fill.new.self c.args.header.place c.args.header.size (length c.args.answer.now)
-    c.copy-from-slice.ensures.after (c.fill.ensures.after (λ y e. e))
+    body_written c.args.tape.now c.copy_from_slice.new.self c.fill.new.self c.args.header.place c.args.header.size (length c.args.answer.now)
+    c.copy_from_slice.ensures.after (c.fill.ensures.after (λ y e. e))

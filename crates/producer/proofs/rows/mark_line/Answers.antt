@@ -13,8 +13,8 @@ returns c =
     let fit = rows_fit v in
     record {
       marked = λ x h.
-          let at : get_or (put_mid from (from + v - from) c.args.work.now c.mark-variables.new.marks) (from + x) 0 ≡ get_or c.mark-variables.new.marks x 0 = search (rules, places) in
-          subst (λ r. get_or (put_mid from (from + v - from) c.args.work.now c.mark-variables.new.marks) (r + x) 0 ≡ mark x c.read-clause.result.now) e (at ∙ c.mark-variables.ensures x (search (rules, places)))
-          ∙ ap (mark x) c.read-clause.ensures;
+          let at : get_or (put_mid from (from + v - from) c.args.work.now c.mark_variables.new.marks) (from + x) 0 ≡ get_or c.mark_variables.new.marks x 0 = search (rules, places) in
+          subst (λ r. get_or (put_mid from (from + v - from) c.args.work.now c.mark_variables.new.marks) (r + x) 0 ≡ mark x c.read_clause.result.now) e (at ∙ c.mark_variables.ensures x (search (rules, places)))
+          ∙ ap (mark x) c.read_clause.ensures;
       kept = λ i h. search (rules, places);
     }

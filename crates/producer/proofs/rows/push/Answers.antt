@@ -2,8 +2,8 @@ use Rattle.std.proofs.Common.{arith}
 use Rattle.producer.proofs.Stacks.{row_high, rows_fit}
 use Rattle.producer.proofs.rows.push.Goals as goal
 
-pub copy-row-requires : goal.copy-row-requires
-copy-row-requires c =
+pub copy_row-requires : goal.copy_row-requires
+copy_row-requires c =
     let v = c.args.v in
     let e = c.row.ensures in
     let f = c.row-2.ensures in

@@ -42,15 +42,15 @@ returns-then-work-d-eq0 c = λ all some st.
     (subst (λ r. get_or w (r + d) 0 ≡ 0 → ⊥) c.row-marks.ensures c.if-work-marks-eq0.false)
     c.if-work-d-eq0.true c.push.new.work c.push.ensures
 
-pub returns-then-not-has-room : goal.returns-then-not-has-room
-returns-then-not-has-room c = λ all some st.
+pub returns-then-not-has_room : goal.returns-then-not-has_room
+returns-then-not-has_room c = λ all some st.
     let w = c.args.work.now in
     let s = c.args.at in
     let d = s.depth - 1 in
     let next : d + 1 ≡ s.depth = omega arith in
     move_long c.args.question.now (length c.args.answer.now) c.args.v w c.args.answer.now s all c.args.line some c.requires.under c.requires.short st d next
     (subst (λ r. get_or w (r + d) 0 ≡ 0 → ⊥) c.row-marks.ensures c.if-work-marks-eq0.false)
-    c.if-work-d-eq0.false (sym c.has-room.ensures ∙ c.if-not-has-room.true)
+    c.if-work-d-eq0.false (sym c.has_room.ensures ∙ c.if-not-has_room.true)
 
 pub returns : goal.returns
 returns c = λ all some st.
@@ -60,10 +60,10 @@ returns c = λ all some st.
     let s = c.args.at in
     let d = s.depth - 1 in
     let next : d + 1 ≡ s.depth = omega arith in
-    let f = sym c.has-room.ensures ∙ c.if-not-has-room.false in
-    subst (λ u. Moved q n c.args.v w c.pop-first.new.work c.put-step.new.answer s all (On (record { depth = d; steps = s.steps + 1; line = Some (u + s.steps) }))) (sym c.count-clauses.ensures)
+    let f = sym c.has_room.ensures ∙ c.if-not-has_room.false in
+    subst (λ u. Moved q n c.args.v w c.pop-first.new.work c.put_step.new.answer s all (On (record { depth = d; steps = s.steps + 1; line = Some (u + s.steps) }))) (sym c.count_clauses.ensures)
     (move_step q n c.args.v w c.args.answer.now s all c.args.line some c.requires.under c.requires.short st d next
     (subst (λ r. get_or w (r + d) 0 ≡ 0 → ⊥) c.row-marks.ensures c.if-work-marks-eq0.false)
-    c.if-work-d-eq0.false f c.pop-first.new.work c.pop-first.ensures.unset c.pop-first.ensures.joined c.put-step.new.answer
-    (c.put-step.ensures ∙ ap (λ u. put c.args.answer.now s.steps (record { first = u; second = c.args.line; pivot = d })) c.pop-first.ensures.line)
+    c.if-work-d-eq0.false f c.pop-first.new.work c.pop-first.ensures.unset c.pop-first.ensures.joined c.put_step.new.answer
+    (c.put_step.ensures ∙ ap (λ u. put c.args.answer.now s.steps (record { first = u; second = c.args.line; pivot = d })) c.pop-first.ensures.line)
     (fits_true n s.steps f).0)

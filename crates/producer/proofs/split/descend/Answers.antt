@@ -13,8 +13,8 @@ returns-in-Some c = λ n a all none st.
     let fit = rows_fit c.args.v in
     let long : c.args.v ≤ length w = omega arith in
     let z : c.args.v - 0 ≡ c.args.v = omega arith in
-    move_closed q n c.args.v w a s all none c.requires.under long st c.mark-line.new.work c.in-Some.k c.requires.short
-    (c.in-Some.ensures ∙ ap (λ d. lowest q (take d w) s.depth (clause_count q) 0) z) c.mark-line.ensures.marked c.mark-line.ensures.kept
+    move_closed q n c.args.v w a s all none c.requires.under long st c.mark_line.new.work c.in-Some.k c.requires.short
+    (c.in-Some.ensures ∙ ap (λ d. lowest q (take d w) s.depth (clause_count q) 0) z) c.mark_line.ensures.marked c.mark_line.ensures.kept
 
 pub returns-then-at-v : goal.returns-then-at-v
 returns-then-at-v c = λ n a all none st.
@@ -25,7 +25,7 @@ returns-then-at-v c = λ n a all none st.
     let long : c.args.v ≤ length w = omega arith in
     let z : c.args.v - 0 ≡ c.args.v = omega arith in
     move_found q n c.args.v w a s all none c.requires.under long st
-    (c.in-default.ensures ∙ ap (λ d. lowest q (take d w) s.depth (clause_count q) 0) z) c.if-at-v.true
+    (c.in_default.ensures ∙ ap (λ d. lowest q (take d w) s.depth (clause_count q) 0) z) c.if-at-v.true
 
 pub returns : goal.returns
 returns c = λ n a all none st.
@@ -36,4 +36,4 @@ returns c = λ n a all none st.
     let long : c.args.v ≤ length w = omega arith in
     let z : c.args.v - 0 ≡ c.args.v = omega arith in
     move_open q n c.args.v w a s all none c.requires.under long st
-    (c.in-default.ensures ∙ ap (λ d. lowest q (take d w) s.depth (clause_count q) 0) z) (omega arith) c.requires.short
+    (c.in_default.ensures ∙ ap (λ d. lowest q (take d w) s.depth (clause_count q) 0) z) (omega arith) c.requires.short

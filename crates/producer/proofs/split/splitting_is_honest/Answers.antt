@@ -6,8 +6,8 @@ use Rattle.producer.proofs.split.splitting_is_honest.Goals as goal
 pub returns : goal.returns
 returns c = record {
   says_so = refl;
-  its-replies-are-true = splitting_upheld;
-  it-makes-few-steps = splitting_few;
-  a-branch-ends-at-the-lowest-false-clause = λ q n is. ends_at_once q is n;
-  on-questions-it-is-the-plain-rule = λ q n m is. by_the_rule q is n m;
+  its_replies_are_true = splitting_upheld;
+  it_makes_few_steps = splitting_few;
+  a_branch_ends_at_the_lowest_false_clause = λ q n is. ends_at_once q is n;
+  on_questions_it_is_the_plain_rule = λ q n m is. by_the_rule q is n m;
 }

@@ -10,35 +10,35 @@ use Rattle.question.proofs.Posing.{posed_not, posed_counted, given_ready, front_
 use Rattle.question.proofs.Promises.{state_long, inclusion_takes, inclusion_lays, inclusion_is_question, inclusion_asks_outside, inclusion_tells_state, inclusion_numbers_clauses}
 use Rattle.question.proofs.build.inclusion_question.Goals as goal
 
-pub returns-then-not-is-given : goal.returns-then-not-is-given
-returns-then-not-is-given c =
+pub returns-then-not-is_given : goal.returns-then-not-is_given
+returns-then-not-is_given c =
     let l = c.args.sheet.now in
     let f = c.args.formula.now in
     let n = c.args.gates in
     let p = c.args.p.0 in
     let r = c.args.r.0 in
     let old = c.args.question.now in
-    let is = posed_not (given l f n) (inclusion_list (sheet_of (counted l)) (counted f) n p r) old (sym c.if-not-is-given.ensures) in
+    let is = posed_not (given l f n) (inclusion_list (sheet_of (counted l)) (counted f) n p r) old (sym c.if-not-is_given.ensures) in
     record {
-      poses-the-inclusion-question = is;
-      takes-all-that-fits = inclusion_takes l f n old None old p r is;
-      has-a-closed-length = state_long (sheet_of (counted l)) (counted f) n p (in_question (width (sheet_of (counted l))) 1 (opposite r));
-      lays-out-the-clauses = inclusion_lays l f n old None old p r is;
-      is-a-question = inclusion_is_question l f n old None old p r is;
-      asks-for-a-state-outside = inclusion_asks_outside l f n old None old p r is;
-      tells-the-state = inclusion_tells_state l f n old None old p r is;
-      numbers-the-clauses = inclusion_numbers_clauses l f n old None old p r is;
+      poses_the_inclusion_question = is;
+      takes_all_that_fits = inclusion_takes l f n old None old p r is;
+      has_a_closed_length = state_long (sheet_of (counted l)) (counted f) n p (in_question (width (sheet_of (counted l))) 1 (opposite r));
+      lays_out_the_clauses = inclusion_lays l f n old None old p r is;
+      is_a_question = inclusion_is_question l f n old None old p r is;
+      asks_for_a_state_outside = inclusion_asks_outside l f n old None old p r is;
+      tells_the_state = inclusion_tells_state l f n old None old p r is;
+      numbers_the_clauses = inclusion_numbers_clauses l f n old None old p r is;
     }
 
 pub placed-outside-requires : goal.placed-outside-requires
 placed-outside-requires c =
-    let ready = given_ready c.args.sheet.now c.args.formula.now c.counted-sheet.result.now c.counted-formula.result.now c.args.gates c.if-not-is-given.ensures c.counted-sheet.ensures.value c.counted-formula.ensures.value in
+    let ready = given_ready c.args.sheet.now c.args.formula.now c.counted-sheet.result.now c.counted-formula.result.now c.args.gates c.if-not-is_given.ensures c.counted-sheet.ensures.value c.counted-formula.ensures.value in
     record { legal = ready.legal; bits = omega (arith, one_placed (width (sheet_of c.counted-sheet.result.now)) c.opposite.result.0) }
 
-pub pose-state-requires : goal.pose-state-requires
-pose-state-requires c =
-    let ready = given_ready c.args.sheet.now c.args.formula.now c.counted-sheet.result.now c.counted-formula.result.now c.args.gates c.if-not-is-given.ensures c.counted-sheet.ensures.value c.counted-formula.ensures.value in
-    record { legal = ready.legal; whole = (ready.whole, ready.few); counts = front_few c.args.question.now c.counted-len-len.result c.counted-len-len.ensures }
+pub pose_state-requires : goal.pose_state-requires
+pose_state-requires c =
+    let ready = given_ready c.args.sheet.now c.args.formula.now c.counted-sheet.result.now c.counted-formula.result.now c.args.gates c.if-not-is_given.ensures c.counted-sheet.ensures.value c.counted-formula.ensures.value in
+    record { legal = ready.legal; whole = (ready.whole, ready.few); counts = front_few c.args.question.now c.counted_len-len.result c.counted_len-len.ensures }
 
 pub returns : goal.returns
 returns c =
@@ -48,18 +48,18 @@ returns c =
     let p = c.args.p.0 in
     let r = c.args.r.0 in
     let old = c.args.question.now in
-    let len = c.counted-len-len.result in
-    let res = c.pose-state.result in
-    let new = c.pose-state.new.question in
-    let list = inclusion_list_lem (counted l) (counted f) c.counted-sheet.result.now c.counted-formula.result.now c.counted-sheet.ensures.value c.counted-formula.ensures.value n p r c.opposite.result.0 c.placed-outside.result.0 c.opposite.ensures.is-the-other c.placed-outside.ensures in
-    let is = posed_counted (given l f n) (inclusion_list (sheet_of (counted l)) (counted f) n p r) old len (sym c.if-not-is-given.ensures) c.counted-len-len.ensures res new (c.pose-state.ensures ∙ ap (λ (q : List ℕ). posed q (take (len - 0) old)) list) in
+    let len = c.counted_len-len.result in
+    let res = c.pose_state.result in
+    let new = c.pose_state.new.question in
+    let list = inclusion_list_lem (counted l) (counted f) c.counted-sheet.result.now c.counted-formula.result.now c.counted-sheet.ensures.value c.counted-formula.ensures.value n p r c.opposite.result.0 c.placed-outside.result.0 c.opposite.ensures.is_the_other c.placed-outside.ensures in
+    let is = posed_counted (given l f n) (inclusion_list (sheet_of (counted l)) (counted f) n p r) old len (sym c.if-not-is_given.ensures) c.counted_len-len.ensures res new (c.pose_state.ensures ∙ ap (λ (q : List ℕ). posed q (take (len - 0) old)) list) in
     record {
-      poses-the-inclusion-question = is;
-      takes-all-that-fits = inclusion_takes l f n old res (new ++ post_of 0 (len - 0) old) p r is;
-      has-a-closed-length = state_long (sheet_of (counted l)) (counted f) n p (in_question (width (sheet_of (counted l))) 1 (opposite r));
-      lays-out-the-clauses = inclusion_lays l f n old res (new ++ post_of 0 (len - 0) old) p r is;
-      is-a-question = inclusion_is_question l f n old res (new ++ post_of 0 (len - 0) old) p r is;
-      asks-for-a-state-outside = inclusion_asks_outside l f n old res (new ++ post_of 0 (len - 0) old) p r is;
-      tells-the-state = inclusion_tells_state l f n old res (new ++ post_of 0 (len - 0) old) p r is;
-      numbers-the-clauses = inclusion_numbers_clauses l f n old res (new ++ post_of 0 (len - 0) old) p r is;
+      poses_the_inclusion_question = is;
+      takes_all_that_fits = inclusion_takes l f n old res (new ++ post_of 0 (len - 0) old) p r is;
+      has_a_closed_length = state_long (sheet_of (counted l)) (counted f) n p (in_question (width (sheet_of (counted l))) 1 (opposite r));
+      lays_out_the_clauses = inclusion_lays l f n old res (new ++ post_of 0 (len - 0) old) p r is;
+      is_a_question = inclusion_is_question l f n old res (new ++ post_of 0 (len - 0) old) p r is;
+      asks_for_a_state_outside = inclusion_asks_outside l f n old res (new ++ post_of 0 (len - 0) old) p r is;
+      tells_the_state = inclusion_tells_state l f n old res (new ++ post_of 0 (len - 0) old) p r is;
+      numbers_the_clauses = inclusion_numbers_clauses l f n old res (new ++ post_of 0 (len - 0) old) p r is;
     }

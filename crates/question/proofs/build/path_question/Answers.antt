@@ -18,24 +18,24 @@ returns-then-k-gt-MOST-BOUND c =
     let old = c.args.question.now in
     let is = posed_not (leb k 30 && given l f n) (path_list (sheet_of (counted l)) (counted f) n r k) old (elim c.then-k-gt-MOST-BOUND.branch [
       | goal.then-k-gt-MOST-BOUND-via-then-k-gt-MOST-BOUND w ↦ and_left _ (given l f n) (lt-leb k 30 w.if-k-gt-MOST-BOUND.true)
-      | goal.then-k-gt-MOST-BOUND-via-else-k-gt-MOST-BOUND+then-not-is-given w ↦ and_right (leb k 30) _ (sym w.if-not-is-given.ensures)
+      | goal.then-k-gt-MOST-BOUND-via-else-k-gt-MOST-BOUND+then-not-is_given w ↦ and_right (leb k 30) _ (sym w.if-not-is_given.ensures)
     ]) in
     record {
-      poses-the-path-question = is;
-      takes-all-that-fits = path_takes l f n old None old r k is;
-      has-a-closed-length = path_long (sheet_of (counted l)) (counted f) n r k;
-      lays-out-the-clauses = path_lays l f n old None old r k is;
-      is-a-question = path_is_question l f n old None old r k is;
-      asks-for-a-bad-state-ahead = path_asks_bad l f n old None old r k is;
-      tells-the-frames = path_tells_frames l f n old None old r k is;
-      parts-have-their-variables = path_parts_variables l f n old None old r k is;
-      numbers-the-clauses = path_numbers_clauses l f n old None old r k is;
+      poses_the_path_question = is;
+      takes_all_that_fits = path_takes l f n old None old r k is;
+      has_a_closed_length = path_long (sheet_of (counted l)) (counted f) n r k;
+      lays_out_the_clauses = path_lays l f n old None old r k is;
+      is_a_question = path_is_question l f n old None old r k is;
+      asks_for_a_bad_state_ahead = path_asks_bad l f n old None old r k is;
+      tells_the_frames = path_tells_frames l f n old None old r k is;
+      parts_have_their_variables = path_parts_variables l f n old None old r k is;
+      numbers_the_clauses = path_numbers_clauses l f n old None old r k is;
     }
 
-pub pose-path-requires : goal.pose-path-requires
-pose-path-requires c =
-    let ready = given_ready c.args.sheet.now c.args.formula.now c.counted-sheet.result.now c.counted-formula.result.now c.args.gates c.if-not-is-given.ensures c.counted-sheet.ensures.value c.counted-formula.ensures.value in
-    record { legal = ready.legal; bound = omega arith; whole = (ready.whole, ready.few); counts = front_few c.args.question.now c.counted-len-len.result c.counted-len-len.ensures }
+pub pose_path-requires : goal.pose_path-requires
+pose_path-requires c =
+    let ready = given_ready c.args.sheet.now c.args.formula.now c.counted-sheet.result.now c.counted-formula.result.now c.args.gates c.if-not-is_given.ensures c.counted-sheet.ensures.value c.counted-formula.ensures.value in
+    record { legal = ready.legal; bound = omega arith; whole = (ready.whole, ready.few); counts = front_few c.args.question.now c.counted_len-len.result c.counted_len-len.ensures }
 
 pub returns : goal.returns
 returns c =
@@ -45,19 +45,19 @@ returns c =
     let r = c.args.r.0 in
     let k = c.args.k in
     let old = c.args.question.now in
-    let len = c.counted-len-len.result in
-    let res = c.pose-path.result in
-    let new = c.pose-path.new.question in
+    let len = c.counted_len-len.result in
+    let res = c.pose_path.result in
+    let new = c.pose_path.new.question in
     let list = path_list_lem (counted l) (counted f) c.counted-sheet.result.now c.counted-formula.result.now c.counted-sheet.ensures.value c.counted-formula.ensures.value n r k in
-    let is = posed_counted (leb k 30 && given l f n) (path_list (sheet_of (counted l)) (counted f) n r k) old len (and_from _ _ (le-leb k 30 (omega arith)) (sym c.if-not-is-given.ensures)) c.counted-len-len.ensures res new (c.pose-path.ensures ∙ ap (λ (q : List ℕ). posed q (take (len - 0) old)) list) in
+    let is = posed_counted (leb k 30 && given l f n) (path_list (sheet_of (counted l)) (counted f) n r k) old len (and_from _ _ (le-leb k 30 (omega arith)) (sym c.if-not-is_given.ensures)) c.counted_len-len.ensures res new (c.pose_path.ensures ∙ ap (λ (q : List ℕ). posed q (take (len - 0) old)) list) in
     record {
-      poses-the-path-question = is;
-      takes-all-that-fits = path_takes l f n old res (new ++ post_of 0 (len - 0) old) r k is;
-      has-a-closed-length = path_long (sheet_of (counted l)) (counted f) n r k;
-      lays-out-the-clauses = path_lays l f n old res (new ++ post_of 0 (len - 0) old) r k is;
-      is-a-question = path_is_question l f n old res (new ++ post_of 0 (len - 0) old) r k is;
-      asks-for-a-bad-state-ahead = path_asks_bad l f n old res (new ++ post_of 0 (len - 0) old) r k is;
-      tells-the-frames = path_tells_frames l f n old res (new ++ post_of 0 (len - 0) old) r k is;
-      parts-have-their-variables = path_parts_variables l f n old res (new ++ post_of 0 (len - 0) old) r k is;
-      numbers-the-clauses = path_numbers_clauses l f n old res (new ++ post_of 0 (len - 0) old) r k is;
+      poses_the_path_question = is;
+      takes_all_that_fits = path_takes l f n old res (new ++ post_of 0 (len - 0) old) r k is;
+      has_a_closed_length = path_long (sheet_of (counted l)) (counted f) n r k;
+      lays_out_the_clauses = path_lays l f n old res (new ++ post_of 0 (len - 0) old) r k is;
+      is_a_question = path_is_question l f n old res (new ++ post_of 0 (len - 0) old) r k is;
+      asks_for_a_bad_state_ahead = path_asks_bad l f n old res (new ++ post_of 0 (len - 0) old) r k is;
+      tells_the_frames = path_tells_frames l f n old res (new ++ post_of 0 (len - 0) old) r k is;
+      parts_have_their_variables = path_parts_variables l f n old res (new ++ post_of 0 (len - 0) old) r k is;
+      numbers_the_clauses = path_numbers_clauses l f n old res (new ++ post_of 0 (len - 0) old) r k is;
     }

@@ -13,9 +13,9 @@ returns c =
     let n = c.args.gates in
     let k = c.args.k in
     let p : List ℕ × Pen = (c.args.question.now, c.args.pen) in
-    let both : List ℕ × Pen = (c.put-formula-pen.new.question, c.put-formula-pen.result) in
-    let one = c.put-clause.ensures.page ∙ ap (λ (x : ℕ). put both (x ∷ [])) c.placed.ensures in
+    let both : List ℕ × Pen = (c.put_formula-pen.new.question, c.put_formula-pen.result) in
+    let one = c.put_clause.ensures.page ∙ ap (λ (x : ℕ). put both (x ∷ [])) c.placed.ensures in
     record {
-      page = four_parts (frame_clauses s 0) (link_clauses s 0) (formula_clauses s (k + 2) f n) (unit s (k + 2) c.args.r.0) p _ _ both _ c.put-frame-pen.ensures.page c.put-link-pen.ensures.page c.put-formula-pen.ensures.page one;
+      page = four_parts (frame_clauses s 0) (link_clauses s 0) (formula_clauses s (k + 2) f n) (unit s (k + 2) c.args.r.0) p _ _ both _ c.put_frame-pen.ensures.page c.put_link-pen.ensures.page c.put_formula-pen.ensures.page one;
       moved = (omega arith, omega arith);
     }

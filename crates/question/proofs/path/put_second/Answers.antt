@@ -12,6 +12,6 @@ returns c =
     let k = c.args.k in
     let p : List ℕ × Pen = (c.args.question.now, c.args.pen) in
     record {
-      page = three_parts (stretch (frame_clauses s) 1 (k + 1)) (stretch (link_clauses s) 1 k) (bad_clauses s k) p _ _ _ c.put-frames-pen.ensures.page c.put-links-pen.ensures.page c.put-bad.ensures.page;
+      page = three_parts (stretch (frame_clauses s) 1 (k + 1)) (stretch (link_clauses s) 1 k) (bad_clauses s k) p _ _ _ c.put_frames-pen.ensures.page c.put_links-pen.ensures.page c.put_bad.ensures.page;
       moved = (omega arith, omega arith);
     }

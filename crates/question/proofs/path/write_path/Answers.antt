@@ -16,9 +16,9 @@ returns c =
     let r = c.args.r.0 in
     let k = c.args.k in
     let p : List ℕ × Pen = (c.begin-pen.new.question, c.begin-pen.result) in
-    let q : List ℕ × Pen = (c.put-second-pen.new.question, c.put-second-pen.result) in
-    let first = c.first-size-first.ensures.clauses in
-    let clauses = (λ i. first i + c.second-size.ensures.clauses i) ∙ sym (path_length s k f n r) in
-    let page = two_parts (first_clauses s f n r k) (second_clauses s k) p _ q c.put-first-pen.ensures.page c.put-second-pen.ensures.page in
-    written_is ((k + 2) * width s + n) (length (first_clauses s f n r k)) (path_clauses s f n r k) c.args.question.now _ _ _ (ap (λ (w : ℕ). (k + 2) * w + n) c.node-count.ensures) clauses (first ∙ sym (first_length s f n r k))
+    let q : List ℕ × Pen = (c.put_second-pen.new.question, c.put_second-pen.result) in
+    let first = c.first_size-first.ensures.clauses in
+    let clauses = (λ i. first i + c.second_size.ensures.clauses i) ∙ sym (path_length s k f n r) in
+    let page = two_parts (first_clauses s f n r k) (second_clauses s k) p _ q c.put_first-pen.ensures.page c.put_second-pen.ensures.page in
+    written_is ((k + 2) * width s + n) (length (first_clauses s f n r k)) (path_clauses s f n r k) c.args.question.now _ _ _ (ap (λ (w : ℕ). (k + 2) * w + n) c.node_count.ensures) clauses (first ∙ sym (first_length s f n r k))
     (omega (arith, path_length s k f n r, path_literals s k f n r)) p q c.begin-pen.ensures page _ c.finish.ensures

@@ -9,13 +9,13 @@ loop-literal-preserved c =
     let ls = c.args.literals.now in
     let i = c.loop-literal.literal-index in
     let more = at_drop_more (λ (xs : List QuestionLiteral). pushes (c.loop-literal.question, c.loop-literal.pen) (map number xs)) ls i (record { 0 = 0 }) c.loop-literal-test.true in
-    (ap (λ p. pushes p (map number (drop (i + 1) ls))) c.push-literal-pen.ensures.page ∙ sym more ∙ c.loop-literal.invariant.0, (omega arith, omega arith))
+    (ap (λ p. pushes p (map number (drop (i + 1) ls))) c.push_literal-pen.ensures.page ∙ sym more ∙ c.loop-literal.invariant.0, (omega arith, omega arith))
 
 pub returns : goal.returns
 returns c =
     let ls = c.args.literals.now in
     let all = at_drop_all (λ (xs : List QuestionLiteral). pushes (c.loop-literal.question, c.loop-literal.pen) (map number xs)) ls c.loop-literal.literal-index c.loop-literal-test.false in
     record {
-      page = sym all ∙ c.loop-literal.invariant.0 ∙ ap (λ p. pushes p (map number ls)) c.open-clause-pen.ensures.page;
+      page = sym all ∙ c.loop-literal.invariant.0 ∙ ap (λ p. pushes p (map number ls)) c.open_clause-pen.ensures.page;
       moved = (omega arith, omega arith);
     }

@@ -8,7 +8,7 @@ returns c =
     let q = c.counted-question.result.now in
     let k = c.args.k in
     record {
-      is-the-clause =
-          clause_cut q k c.number-at-start.result c.number-at-end.result c.min-from.result c.min-to.result c.number-at-start.ensures c.number-at-end.ensures c.min-from.ensures (omega arith)
+      is_the_clause =
+          clause_cut q k c.number_at-start.result c.number_at-end.result c.min-from.result c.min-to.result c.number_at-start.ensures c.number_at-end.ensures c.min-from.ensures (omega arith)
           ∙ ap (λ (xs : List ℕ). clause_of xs k) c.counted-question.ensures.value;
     }

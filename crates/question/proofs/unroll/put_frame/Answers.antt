@@ -7,4 +7,4 @@ use Rattle.question.proofs.unroll.put_frame.Goals as goal
 pub loop-g-preserved : goal.loop-g-preserved
 loop-g-preserved c =
     let l = c.args.sheet.now in
-    (turn (gate_clauses (sheet_of l) c.args.t) _ _ c.loop-g.g (gate_count l) c.loop-g.invariant.0 _ (omega arith) c.put-gate-pen.ensures.page, (omega arith, omega arith))
+    (turn (gate_clauses (sheet_of l) c.args.t) _ _ c.loop-g.g (gate_count l) c.loop-g.invariant.0 _ (omega arith) c.put_gate-pen.ensures.page, (omega arith, omega arith))

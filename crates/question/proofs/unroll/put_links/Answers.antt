@@ -4,8 +4,8 @@ use Rattle.question.specs.Clauses.{link_clauses}
 use Rattle.question.proofs.Turns.{turn, row_more, row_room}
 use Rattle.question.proofs.unroll.put_links.Goals as goal
 
-pub put-link-pen-requires : goal.put-link-pen-requires
-put-link-pen-requires c =
+pub put_link-pen-requires : goal.put_link-pen-requires
+put_link-pen-requires c =
     let t = c.loop-t.t in
     let n = latch_count c.args.sheet.now in
     let a = row_room t c.args.k (2 * n) (omega arith) (omega arith) in
@@ -18,4 +18,4 @@ loop-t-preserved c =
     let t = c.loop-t.t in
     let a = row_more t (2 * latch_count l) (omega arith) in
     let b = row_more t (4 * latch_count l) (omega arith) in
-    (turn (link_clauses (sheet_of l)) _ _ t (c.args.k + 1) c.loop-t.invariant.0 _ (omega arith) c.put-link-pen.ensures.page, (omega arith, omega arith))
+    (turn (link_clauses (sheet_of l)) _ _ t (c.args.k + 1) c.loop-t.invariant.0 _ (omega arith) c.put_link-pen.ensures.page, (omega arith, omega arith))

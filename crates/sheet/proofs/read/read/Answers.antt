@@ -7,42 +7,42 @@ use Rattle.sheet.proofs.ReadReasons.{reasoned}
 use Rattle.sheet.proofs.Trips.{accepts, read_again, read_formed}
 use Rattle.sheet.proofs.read.read.Goals as goal
 
-pub returns-in-err-head : goal.returns-in-err-head
-returns-in-err-head c =
+pub returns-in_err-head : goal.returns-in_err-head
+returns-in_err-head c =
     let p = err_from_is_err_and c.from-residual.result c.from-residual.ensures.1 in
-    let whole = read_refused c.args.text.now c.args.list.now c.in-err-head.field-0.0 c.in-err-head.ensures.read_off in
+    let whole = read_refused c.args.text.now c.args.list.now c.in_err-head.field-0.0 c.in_err-head.ensures.read_off in
     record {
-      reads-exactly-the-format = rw (p.1, p.2) whole;
-      names-the-first-wrong-line = rw (p.1, p.2) (judged c.args.text.now c.args.list.now c.args.list.now _ whole);
-      gives-the-reason = rw (p.1, p.2) (reasoned c.args.text.now c.args.list.now c.args.list.now _ whole);
-      accepts-legal-sheets = accepts;
-      leaves-a-legal-list = rw p.1 tt;
-      is-written-back = rw p.1 tt;
+      reads_exactly_the_format = rw (p.1, p.2) whole;
+      names_the_first_wrong_line = rw (p.1, p.2) (judged c.args.text.now c.args.list.now c.args.list.now _ whole);
+      gives_the_reason = rw (p.1, p.2) (reasoned c.args.text.now c.args.list.now c.args.list.now _ whole);
+      accepts_legal_sheets = accepts;
+      leaves_a_legal_list = rw p.1 tt;
+      is_written_back = rw p.1 tt;
     }
 
 pub returns-then-places-count : goal.returns-then-places-count
 returns-then-places-count c =
-    let h = c.in-ok-head.head in
-    let whole = read_short c.args.text.now c.args.list.now c.read-all.new.pairs h c.counted-len-places.result (2 * (h.counts.latches + h.counts.gates)) c.in-ok-head.ensures.read_off refl (search rules) c.counted-len-places.ensures (omega arith) in
+    let h = c.in_ok-head.head in
+    let whole = read_short c.args.text.now c.args.list.now c.read_all.new.pairs h c.counted_len-places.result (2 * (h.counts.latches + h.counts.gates)) c.in_ok-head.ensures.read_off refl (search rules) c.counted_len-places.ensures (omega arith) in
     record {
-      reads-exactly-the-format = rw c.refuse.ensures whole;
-      names-the-first-wrong-line = rw c.refuse.ensures (judged c.args.text.now c.args.list.now c.args.list.now _ whole);
-      gives-the-reason = rw c.refuse.ensures (reasoned c.args.text.now c.args.list.now c.args.list.now _ whole);
-      accepts-legal-sheets = accepts;
-      leaves-a-legal-list = tt;
-      is-written-back = tt;
+      reads_exactly_the_format = rw c.refuse.ensures whole;
+      names_the_first_wrong_line = rw c.refuse.ensures (judged c.args.text.now c.args.list.now c.args.list.now _ whole);
+      gives_the_reason = rw c.refuse.ensures (reasoned c.args.text.now c.args.list.now c.args.list.now _ whole);
+      accepts_legal_sheets = accepts;
+      leaves_a_legal_list = tt;
+      is_written_back = tt;
     }
 
 pub returns : goal.returns
 returns c =
-    let h = c.in-ok-head.head in
-    let whole = read_stored c.args.text.now c.args.list.now c.read-all.new.pairs c.store.new.list h c.counted-len-places.result (2 * (h.counts.latches + h.counts.gates)) c.in-ok-head.ensures.read_off refl (search rules) c.counted-len-places.ensures (omega arith) c.store.ensures in
+    let h = c.in_ok-head.head in
+    let whole = read_stored c.args.text.now c.args.list.now c.read_all.new.pairs c.store.new.list h c.counted_len-places.result (2 * (h.counts.latches + h.counts.gates)) c.in_ok-head.ensures.read_off refl (search rules) c.counted_len-places.ensures (omega arith) c.store.ensures in
     record {
-      reads-exactly-the-format = whole;
-      names-the-first-wrong-line = judged c.args.text.now c.args.list.now _ _ whole;
-      gives-the-reason = reasoned c.args.text.now c.args.list.now _ _ whole;
-      accepts-legal-sheets = accepts;
-      leaves-a-legal-list =
-          (well_formed_legal _ (read_formed c.args.text.now c.args.list.now _ _ whole).formed, omega (arith, c.counted-len-places.ensures));
-      is-written-back = read_again c.args.text.now c.args.list.now _ _ whole;
+      reads_exactly_the_format = whole;
+      names_the_first_wrong_line = judged c.args.text.now c.args.list.now _ _ whole;
+      gives_the_reason = reasoned c.args.text.now c.args.list.now _ _ whole;
+      accepts_legal_sheets = accepts;
+      leaves_a_legal_list =
+          (well_formed_legal _ (read_formed c.args.text.now c.args.list.now _ _ whole).formed, omega (arith, c.counted_len-places.ensures));
+      is_written_back = read_again c.args.text.now c.args.list.now _ _ whole;
     }

@@ -3,12 +3,12 @@ use Rattle.std.proofs.lemmas.Result.{err_from_is_err_and}
 use Rattle.sheet.proofs.ReadLines.{pairs_step, pairs_stop, take_two}
 use Rattle.sheet.proofs.read.read_pairs.Goals as goal
 
-pub returns-in-err-pair : goal.returns-in-err-pair
-returns-in-err-pair c =
+pub returns-in_err-pair : goal.returns-in_err-pair
+returns-in_err-pair c =
     let p = err_from_is_err_and c.from-residual.result c.from-residual.ensures.1 in
     let u = c.args.rule in
     let i = c.loop-i.i in
-    let stop = pairs_stop (c.args.count - i) u.due u.most (u.own + i) (take (c.args.at + 2 * i) c.loop-i.out) (u.place + i) c.loop-i.rest.now c.in-err-pair.field-0.0 (omega arith) c.in-err-pair.ensures in
+    let stop = pairs_stop (c.args.count - i) u.due u.most (u.own + i) (take (c.args.at + 2 * i) c.loop-i.out) (u.place + i) c.loop-i.rest.now c.in_err-pair.field-0.0 (omega arith) c.in_err-pair.ensures in
     rw (p.1, p.2) (sym stop ∙ c.loop-i.invariant)
 
 pub loop-i-preserved : goal.loop-i-preserved
@@ -16,8 +16,8 @@ loop-i-preserved c =
     let u = c.args.rule in
     let i = c.loop-i.i in
     let k = c.args.at + 2 * i in
-    let got = c.in-ok-pair.pair in
-    let step = pairs_step (c.args.count - i) u.due u.most (u.own + i) (take k c.loop-i.out) (u.place + i) c.loop-i.rest.now got.first got.second got.rest.now (omega arith) c.in-ok-pair.ensures in
+    let got = c.in_ok-pair.pair in
+    let step = pairs_step (c.args.count - i) u.due u.most (u.own + i) (take k c.loop-i.out) (u.place + i) c.loop-i.rest.now got.first got.second got.rest.now (omega arith) c.in_ok-pair.ensures in
     let two = take_two c.loop-i.out k got.first got.second (omega arith) in
     let n : c.args.count - (i + 1) ≡ c.args.count - i - 1 = omega arith in
     let o : u.own + (i + 1) ≡ u.own + i + 1 = omega arith in

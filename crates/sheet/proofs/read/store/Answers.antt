@@ -5,7 +5,7 @@ use Rattle.sheet.proofs.read.store.Goals as goal
 pub returns : goal.returns
 returns c =
     let zeros = c.fill.ensures.after (λ y e. e) in
-    let copied = c.copy-from-slice.ensures.after in
+    let copied = c.copy_from_slice.ensures.after in
     let h = c.args.head in
     let is = store_all (length c.args.list.now) h.counts.inputs h.counts.latches h.counts.gates h.bad c.args.pairs.now c.requires in
     cc

@@ -4,7 +4,7 @@ use Rattle.sheet.proofs.write.put_line.Goals as goal
 
 pub loop-n-preserved : goal.loop-n-preserved
 loop-n-preserved c = (
-  number_more c.args.numbers.now c.loop-n.n-index _ _ _ (omega arith) c.put-to-in-loop-n.ensures.text c.put-number-to.ensures.text ∙ c.loop-n.invariant.0,
+  number_more c.args.numbers.now c.loop-n.n-index _ _ _ (omega arith) c.put-to-in-loop-n.ensures.text c.put_number-to.ensures.text ∙ c.loop-n.invariant.0,
   omega arith,
 )
 

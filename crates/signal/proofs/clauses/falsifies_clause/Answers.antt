@@ -14,11 +14,11 @@ returns c =
     let r = c.eq.result in
     let zero = not (may_tri (clause_of tri_ops numbers literals) 0 true) in
     let is : r ≡ zero =
-    equals_zero r c.clause-value.result c.eq.ensures
-    ∙ ap (λ (x : Tri). not (may_tri x 0 true)) c.clause-value.ensures.is-the-clause in
+    equals_zero r c.clause_value.result c.eq.ensures
+    ∙ ap (λ (x : Tri). not (may_tri x 0 true)) c.clause_value.ensures.is_the_clause in
     record {
-      is-only-zero = is;
-      when-each-literal-is-zero = Decides-at r zero is (each_zero numbers literals);
-      when-each-literal-is-false = Decides-at r zero is (each_false numbers literals);
-      when-no-completion-satisfies = Decides-at r zero is (no_completion numbers literals);
+      is_only_zero = is;
+      when_each_literal_is_zero = Decides-at r zero is (each_zero numbers literals);
+      when_each_literal_is_false = Decides-at r zero is (each_false numbers literals);
+      when_no_completion_satisfies = Decides-at r zero is (no_completion numbers literals);
     }

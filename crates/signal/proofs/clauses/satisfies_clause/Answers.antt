@@ -9,6 +9,6 @@ pub returns : goal.returns
 returns c =
     let α = bits_of (counted c.args.numbers.now) in
     let truth = holds α (counted c.args.literals.now) in
-    let is : c.clause-value.result ≡ truth =
-    exactly_same c.clause-value.result truth (c.clause-value.ensures.covers-each-assignment 0 α (omega arith) (bits_agree (counted c.args.numbers.now))) in
-    record { is-the-truth = is; when-a-literal-is-true = Decides-at c.clause-value.result truth is (clause_decides α (counted c.args.literals.now)) }
+    let is : c.clause_value.result ≡ truth =
+    exactly_same c.clause_value.result truth (c.clause_value.ensures.covers_each_assignment 0 α (omega arith) (bits_agree (counted c.args.numbers.now))) in
+    record { is_the_truth = is; when_a_literal_is_true = Decides-at c.clause_value.result truth is (clause_decides α (counted c.args.literals.now)) }

@@ -3,15 +3,15 @@ use Rattle.formula.specs.Built.{built}
 use Rattle.formula.proofs.Building.{gate_short, gate_grown}
 use Rattle.formula.proofs.builder.Builder.add_gate.Goals as goal
 
-pub returns-then-counted-len-at : goal.returns-then-counted-len-at
-returns-then-counted-len-at c =
+pub returns-then-counted_len-at : goal.returns-then-counted_len-at
+returns-then-counted_len-at c =
     let g = c.args.self.now in
     let f = c.args.list.now in
-    sym (ap (built g f) (gate_short g.width g.count f c.args.left c.args.right c.counted-len.result c.counted-len.ensures c.then-counted-len-at.either))
+    sym (ap (built g f) (gate_short g.width g.count f c.args.left c.args.right c.counted_len.result c.counted_len.ensures c.then-counted_len-at.either))
 
 pub returns : goal.returns
 returns c =
     let g = c.args.self.now in
     let f = c.args.list.now in
-    rw c.from-number.ensures
-    (sym (ap (built g f) (gate_grown g.width g.count f c.args.left c.args.right c.counted-len.result c.counted-len.ensures (omega arith) (omega arith))))
+    rw c.from_number.ensures
+    (sym (ap (built g f) (gate_grown g.width g.count f c.args.left c.args.right c.counted_len.result c.counted_len.ensures (omega arith) (omega arith))))
