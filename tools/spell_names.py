@@ -23,6 +23,8 @@ TOKEN = re.compile(rf"(?<![^\s(){{}};,@«»\[\]])((?:c|l|w|g|goal|q)[0-9']*)((?:
 PATH = re.compile(rf"\b(?:Rattle|package)(?:\.{NAME})+?(?=\.\{{| as |\s|$)", re.M)
 USE = re.compile(r"ghost\s+use\b[^;]*;")
 CLAUSE = re.compile(r"(?:requires|ensures)\s*\*?\s*(?:\w+\s*)?\{|ghost\s*(?:\w+\s*(?::\s*(?:(?:owns|lends)\s*)?|=\s*))?(?:invariant\s*)?\{")
+# A text that names what Rattle makes of a function.
+MADE = re.compile(r"\.(?:Goals|Given|Lts)\b")
 PROSE = re.compile(r"[A-Za-z][\w'-]*")
 
 
@@ -80,12 +82,15 @@ def declared(top):
     return own - made, own & made
 
 
-def turn(text, table, prose=True):
+def turn(text, table):
     """A text of antt: its code, and the names that stand in its comments."""
+    made = MADE.search(text)
 
     def one(m):
         if m[3]:
             return table.get(m[3], m[3])
+        if not made:
+            return re.sub(WORD, lambda w: table.get(w[0], w[0]), m[0])
         first, *rest = m[2][1:].split(".")
         return ".".join([m[1], first, *(table.get(it, it) for it in rest)])
 
@@ -93,7 +98,7 @@ def turn(text, table, prose=True):
     for m in QUIET.finditer(text):
         out.append(TOKEN.sub(one, text[at : m.start()]))
         quiet = m[0]
-        if prose and quiet[:1] != '"':
+        if quiet[:1] != '"':
             quiet = PROSE.sub(lambda w: in_prose(w[0], table), quiet)
         out.append(quiet)
         at = m.end()

@@ -45,7 +45,7 @@ says_same k s ns ms h g =
     some_same ns ms
     (sym (numbers_given j ns (h.as_many ∙ many) h.three_digits)
     ∙ ap (λ s. numbers (parts j s)) same
-    ∙ numbers_given j ms (g.as_many ∙ many) g.three-digits)
+    ∙ numbers_given j ms (g.as_many ∙ many) g.three_digits)
 
 -- one line is not wrong for two reasons
 module _ (l : List ℕ) (k : Kind) (s : List ℕ) (n m : ℕ) where

@@ -2,8 +2,8 @@ use Rattle.std.proofs.Common.{◌≡◌, ◌+◌, ◌<◌, length, sym, ◌∙�
 use Rattle.signal.proofs.Steps.{gates_more, gates_all}
 use Rattle.signal.proofs.run_gates.Goals as goal
 
-pub offset-bounds-values-first : goal.offset-bounds-values-first
-offset-bounds-values-first g c =
+pub offset_bounds-values-first : goal.offset_bounds-values-first
+offset_bounds-values-first g c =
     let within : c.args.first + c.loop-i.i < length c.loop-i.values = omega arith in search rules
 
 pub loop-i-preserved : goal.loop-i-preserved

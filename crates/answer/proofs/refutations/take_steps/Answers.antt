@@ -6,7 +6,7 @@ use Rattle.answer.proofs.refutations.take_steps.Goals as goal
 
 pub returns-in_err-at : goal.returns-in_err-at
 returns-in_err-at c =
-    let p = err_from_is_err_and c.from-residual.result c.from-residual.ensures.1 in
+    let p = err_from_is_err_and c.from_residual.result c.from_residual.ensures.1 in
     let told = c.in_err-at.ensures.goes_on in
     let e =
     sym c.loop-at.invariant.2

@@ -10,7 +10,7 @@ run_off-requires c = used_few c.args.assignment.now c.used_part-assignment.resul
 
 pub returns-in_err-steps : goal.returns-in_err-steps
 returns-in_err-steps c =
-    let p = err_from_is_err_and c.from-residual.result c.from-residual.ensures.1 in
+    let p = err_from_is_err_and c.from_residual.result c.from_residual.ensures.1 in
     record {
       reads_off_by_the_rules =
           ap (λ (r : Result Report Fault). let q : Result Report Fault × List ℕ = (r, c.run_off.new.run) in q) (p.1 ∙ ap (λ (e : Fault). Err e) p.2)

@@ -9,7 +9,7 @@ returns-in_err-literal c =
     let s = sheet_of c.args.sheet.now in
     let g = c.loop-latch.builder in
     let short = starts_short s c.loop-latch.latch (latch_count c.args.sheet.now) c.loop-latch-test.true g c.loop-latch.list c.loop-latch.invariant.0 c.loop-latch.literal c.in-Some.start c.in-Some.ensures c.and.new.self c.and.new.list c.in_err-literal.ensures.conjoins in
-    rw c.from-residual.ensures (sym c.loop-latch.invariant.1 ∙ short)
+    rw c.from_residual.ensures (sym c.loop-latch.invariant.1 ∙ short)
 
 pub loop-latch-preserved : goal.loop-latch-preserved
 loop-latch-preserved c =

@@ -14,7 +14,7 @@ returns-in_err-literal c =
     let told = c.in_err-literal.ensures.disjoins in
     let latch = c.in-Some.ensures ∙ ap (latch_in u.width (cut_by u)) c.from_number.ensures.has_the_number in
     let is = or_short u c.args.clause.now c.loop-x.x-index c.loop-x-test.true g f c.loop-x.invariant.0 x y latch c.or.new.self c.or.new.list told in
-    rw c.from-residual.ensures
+    rw c.from_residual.ensures
     (record {
       gives = sym c.loop-x.invariant.1 ∙ is;
       keeps = stays_trans c.args.formula.now f c.or.new.list c.loop-x.invariant.2 (or_keeps g f g.width g.count x.0 y.0 None c.or.new.self c.or.new.list told);

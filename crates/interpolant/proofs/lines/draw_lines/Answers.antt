@@ -9,7 +9,7 @@ pub returns-in_err-drawn : goal.returns-in_err-drawn
 returns-in_err-drawn c =
     let told = c.in_err-drawn.ensures in
     let is = lines_more c.args.parts.width (cut_by c.args.parts) c.args.question.now c.args.refutation.now c.args.lines c.loop-line.line c.loop-line.values c.loop-line.count c.loop-line.formula c.loop-line-test.true short told.gives in
-    rw c.from-residual.ensures
+    rw c.from_residual.ensures
     (record {
       gives = sym c.loop-line.invariant.0 ∙ is;
       keeps = stays_trans c.args.formula.now c.loop-line.formula c.draw_line.new.formula c.loop-line.invariant.1 told.keeps;

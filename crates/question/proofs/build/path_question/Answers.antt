@@ -8,17 +8,17 @@ use Rattle.question.proofs.Posing.{posed_not, posed_counted, given_ready, front_
 use Rattle.question.proofs.Promises.{path_long, path_takes, path_lays, path_is_question, path_asks_bad, path_tells_frames, path_parts_variables, path_numbers_clauses}
 use Rattle.question.proofs.build.path_question.Goals as goal
 
-pub returns-then-k-gt-MOST-BOUND : goal.returns-then-k-gt-MOST-BOUND
-returns-then-k-gt-MOST-BOUND c =
+pub returns-then-k-gt-MOST_BOUND : goal.returns-then-k-gt-MOST_BOUND
+returns-then-k-gt-MOST_BOUND c =
     let l = c.args.sheet.now in
     let f = c.args.formula.now in
     let n = c.args.gates in
     let r = c.args.r.0 in
     let k = c.args.k in
     let old = c.args.question.now in
-    let is = posed_not (leb k 30 && given l f n) (path_list (sheet_of (counted l)) (counted f) n r k) old (elim c.then-k-gt-MOST-BOUND.branch [
-      | goal.then-k-gt-MOST-BOUND-via-then-k-gt-MOST-BOUND w ↦ and_left _ (given l f n) (lt-leb k 30 w.if-k-gt-MOST-BOUND.true)
-      | goal.then-k-gt-MOST-BOUND-via-else-k-gt-MOST-BOUND+then-not-is_given w ↦ and_right (leb k 30) _ (sym w.if-not-is_given.ensures)
+    let is = posed_not (leb k 30 && given l f n) (path_list (sheet_of (counted l)) (counted f) n r k) old (elim c.then-k-gt-MOST_BOUND.branch [
+      | goal.then-k-gt-MOST_BOUND-via-then-k-gt-MOST_BOUND w ↦ and_left _ (given l f n) (lt-leb k 30 w.if-k-gt-MOST_BOUND.true)
+      | goal.then-k-gt-MOST_BOUND-via-else-k-gt-MOST_BOUND+then-not-is_given w ↦ and_right (leb k 30) _ (sym w.if-not-is_given.ensures)
     ]) in
     record {
       poses_the_path_question = is;

@@ -9,7 +9,7 @@ use Rattle.sheet.proofs.read.read.Goals as goal
 
 pub returns-in_err-head : goal.returns-in_err-head
 returns-in_err-head c =
-    let p = err_from_is_err_and c.from-residual.result c.from-residual.ensures.1 in
+    let p = err_from_is_err_and c.from_residual.result c.from_residual.ensures.1 in
     let whole = read_refused c.args.text.now c.args.list.now c.in_err-head.field-0.0 c.in_err-head.ensures.read_off in
     record {
       reads_exactly_the_format = rw (p.1, p.2) whole;

@@ -5,7 +5,7 @@ use Rattle.sheet.proofs.read.read_pairs.Goals as goal
 
 pub returns-in_err-pair : goal.returns-in_err-pair
 returns-in_err-pair c =
-    let p = err_from_is_err_and c.from-residual.result c.from-residual.ensures.1 in
+    let p = err_from_is_err_and c.from_residual.result c.from_residual.ensures.1 in
     let u = c.args.rule in
     let i = c.loop-i.i in
     let stop = pairs_stop (c.args.count - i) u.due u.most (u.own + i) (take (c.args.at + 2 * i) c.loop-i.out) (u.place + i) c.loop-i.rest.now c.in_err-pair.field-0.0 (omega arith) c.in_err-pair.ensures in

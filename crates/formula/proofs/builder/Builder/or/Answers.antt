@@ -11,7 +11,7 @@ returns-in_err-both c =
     let g' = c.and.new.self in
     let f' = c.and.new.list in
     let is = or_none g f a.0 b.0 c.opposite.result.0 c.opposite-2.result.0 c.opposite.ensures.is_the_other c.opposite-2.ensures.is_the_other g' f' c.in_err-both.ensures.conjoins in
-    rw c.from-residual.ensures (record { disjoins = is; is_true_where_one_is = disjoin_joins g f a b None g' f' is })
+    rw c.from_residual.ensures (record { disjoins = is; is_true_where_one_is = disjoin_joins g f a b None g' f' is })
 
 pub returns : goal.returns
 returns c =
