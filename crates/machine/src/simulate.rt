@@ -28,7 +28,7 @@ fn literal_at(sheet: &[u32], place: usize) -> Literal
 // The signal of a literal, where each node has one.
 fn literal_signal<S: Signal>(nodes: &[S], literal: Literal) -> S
     requires { literal.0 / 2 < length nodes.now }
-    ensures { result ≡ node_of ops nodes.now literal.0 }
+    ensures { result ≡ node_of S.ops nodes.now literal.0 }
 {
     let signal = nodes[literal.node() as usize];
     if literal.is_negated() {
@@ -62,7 +62,7 @@ fn set_latches<S: Signal>(sheet: &[u32], nodes: &[S], state: &mut [S])
     requires legal { Legal sheet.now }
     requires nodes { length nodes.now ≡ node_count sheet.now }
     requires latches { length state.old ≡ latch_count sheet.now }
-    ensures { state.new ≡ next_signals ops sheet.now nodes.now }
+    ensures { state.new ≡ next_signals S.ops sheet.now nodes.now }
 {
     for i in 0..state.len() {
         state[i] = literal_signal(nodes, literal_at(sheet, 4 + 2 * i));
@@ -75,7 +75,7 @@ fn step_in<S: Signal>(sheet: &[u32], state: &mut [S], inputs: &[S], scratch: &mu
     requires latches { length state.old ≡ latch_count sheet.now }
     requires inputs { length inputs.now ≡ input_count sheet.now }
     requires blank { scratch.old ≡ replicate 249 (ops.known false) }
-    ensures { (result, state.new) ≡ step_signals ops sheet.now inputs.now state.old }
+    ensures { (result, state.new) ≡ step_signals S.ops sheet.now inputs.now state.old }
 {
     let first_gate = 1 + inputs.len() + state.len();
     let nodes = &mut scratch[0..first_gate + sheet[2] as usize];
@@ -90,7 +90,7 @@ fn step<S: Signal>(sheet: &[u32], state: &mut [S], inputs: &[S]) -> S
     requires legal { Legal sheet.now }
     requires latches { length state.old ≡ latch_count sheet.now }
     requires inputs { length inputs.now ≡ input_count sheet.now }
-    ensures { (result, state.new) ≡ step_signals ops sheet.now inputs.now state.old }
+    ensures { (result, state.new) ≡ step_signals S.ops sheet.now inputs.now state.old }
 {
     let mut scratch = [S::bit(false); MOST_NODES];
     step_in(sheet, state, inputs, &mut scratch)
@@ -100,8 +100,8 @@ fn step<S: Signal>(sheet: &[u32], state: &mut [S], inputs: &[S]) -> S
 // It refuses a list that is not legal, a state with not exactly a signal for each latch, and inputs with not exactly one for
 // each input. A refusal leaves the state as it is.
 pub fn simulate<S: Signal>(sheet: &[u32], state: &mut [S], inputs: &[S]) -> Result<S, Fault>
-    ensures steps_by_the_gate_values { (result, state.new) ≡ on_counted (simulated ops (counted sheet.now) (counted inputs.now)) state.old }
-    ensures covers_every_choice { (i : ℕ) (c x : ℕ → Bool) → i < lanes → MayBe may i (counted state.old) c → MayBe may i (counted inputs.now) x → IfOk result (λ bad. CoversStep may i (sheet_of (counted sheet.now)) c x bad state.new) }
+    ensures steps_by_the_gate_values { (result, state.new) ≡ on_counted (simulated S.ops (counted sheet.now) (counted inputs.now)) state.old }
+    ensures covers_every_choice { (i : ℕ) (c x : ℕ → Bool) → i < S.lanes → MayBe S.may i (counted state.old) c → MayBe S.may i (counted inputs.now) x → IfOk result (λ bad. CoversStep S.may i (sheet_of (counted sheet.now)) c x bad state.new) }
     ensures those_values_alone_fit_the_gates { OnOk result (ValuesFit (sheet_of (counted sheet.now))) }
 {
     if !is_legal(sheet) {

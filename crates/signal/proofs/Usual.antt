@@ -12,6 +12,8 @@ use Rattle.signal.specs.Truth.{lit, holds, True, Satisfied, bits_of, Completes, 
 use Rattle.signal.specs.declared.kinds.Tri.{Tri}
 use Rattle.signal.specs.declared.kinds.Tri.TheVariants.{Zero, One, Unset}
 use Rattle.signal.proofs.Cover.{exactly_self}
+use denote.Enum.Bare.{sameb}
+use Rattle.signal.specs.contracts.kinds.Tri.{the_type}
 
 -- ---- plain bits
 pub exactly_same : (a b : Bool) → exactly a b ≡ true → a ≡ b
@@ -48,11 +50,10 @@ zero_decides One = (λ e. cc, λ e. cc)
 zero_decides Unset = (λ e. cc, λ e. cc)
 
 -- what `==` answers
-pub equals_zero : (r : Bool) (x : Tri) → cond r (x ≡ Zero) (x ≡ Zero → ⊥) → r ≡ is_zero x
-equals_zero true x e = sym ((zero_decides x).1 e)
-equals_zero false Zero e = absurd (e refl)
-equals_zero false One e = refl
-equals_zero false Unset e = refl
+pub equals_zero : (r : Bool) (x : Tri) → r ≡ sameb the_type x Zero → r ≡ is_zero x
+equals_zero r Zero e = e
+equals_zero r One e = e
+equals_zero r Unset e = e
 
 zero_or : (x y : Tri) → is_zero (disjunction tri_ops x y) ≡ (is_zero x && is_zero y)
 zero_or Zero Zero = refl

@@ -70,14 +70,14 @@ fn item_or<T: Copy>(list: &[T], place: usize, other: T) -> T
 
 // The value x of a variable, as a literal of it sees it.
 fn phased<S: Signal>(x: S, literal: u32) -> S
-    ensures { result ≡ phased_of ops literal x }
+    ensures { result ≡ phased_of S.ops literal x }
 {
     if literal % 2 == 0 { x } else { x.not() }
 }
 
 // The value of a literal where every number counts.
 fn literal_of<S: Signal>(numbers: &[u32], literal: u32) -> S
-    ensures { result ≡ literal_of ops numbers.now literal }
+    ensures { result ≡ literal_of S.ops numbers.now literal }
 {
     let number = item_or(numbers, (literal / 2) as usize, 0);
     phased(S::from_number(number), literal)
@@ -85,7 +85,7 @@ fn literal_of<S: Signal>(numbers: &[u32], literal: u32) -> S
 
 // The OR of the literals where every number and every literal counts.
 fn clause_of<S: Signal>(numbers: &[u32], literals: &[u32]) -> S
-    ensures { result ≡ clause_of ops numbers.now literals.now }
+    ensures { result ≡ clause_of S.ops numbers.now literals.now }
 {
     let mut any = S::bit(false);
     for literal in literals {
@@ -96,7 +96,7 @@ fn clause_of<S: Signal>(numbers: &[u32], literals: &[u32]) -> S
 
 // The value of a literal of a node.
 fn node_of<S: Signal>(values: &[S], literal: u32) -> S
-    ensures { result ≡ node_of ops values.now literal }
+    ensures { result ≡ node_of S.ops values.now literal }
 {
     phased(
         item_or(values, (literal / 2) as usize, S::bit(false)),
@@ -106,7 +106,7 @@ fn node_of<S: Signal>(values: &[S], literal: u32) -> S
 
 // The AND gates where every pair and every value counts.
 fn run_gates<S: Signal>(pairs: &[u32], first: usize, values: &mut [S])
-    ensures { values.new ≡ gates_of ops pairs.now first values.old }
+    ensures { values.new ≡ gates_of S.ops pairs.now first values.old }
 {
     let count = (pairs.len() / 2).min(values.len().saturating_sub(first));
     for i in 0..count {
@@ -119,19 +119,19 @@ fn run_gates<S: Signal>(pairs: &[u32], first: usize, values: &mut [S])
 // The value of a literal: that of its variable, whose number is read as a signal, and negated if the literal is odd.
 // A variable that has no number counts as 0.
 pub fn literal_value<S: Signal>(numbers: &[u32], literal: u32) -> S
-    ensures is_the_literal { result ≡ literal_of ops (counted numbers.now) literal }
-    ensures may_be_exactly_its_bits { (i : ℕ) (b : Bool) → i < lanes → may result i b ≡ literal_set (λ k. may (ops.reading (slice_index (counted numbers.now) k)) i) literal b }
-    ensures covers_each_assignment { (i : ℕ) (α : ℕ → Bool) → i < lanes → Agrees ops may i (counted numbers.now) α → may result i (lit α literal) ≡ true }
+    ensures is_the_literal { result ≡ literal_of S.ops (counted numbers.now) literal }
+    ensures may_be_exactly_its_bits { (i : ℕ) (b : Bool) → i < S.lanes → S.may result i b ≡ literal_set (λ k. S.may (S.ops.reading (slice_index (counted numbers.now) k)) i) literal b }
+    ensures covers_each_assignment { (i : ℕ) (α : ℕ → Bool) → i < S.lanes → Agrees S.ops S.may i (counted numbers.now) α → S.may result i (lit α literal) ≡ true }
 {
     literal_of(counted(numbers), literal)
 }
 
 // The value of a clause: the OR of its literals.
 pub fn clause_value<S: Signal>(numbers: &[u32], literals: &[u32]) -> S
-    ensures is_the_clause { result ≡ clause_of ops (counted numbers.now) (counted literals.now) }
-    ensures may_be_exactly_the_ors { (i : ℕ) (b : Bool) → i < lanes → may result i b ≡ clause_set (λ k. may (ops.reading (slice_index (counted numbers.now) k)) i) (counted literals.now) b }
+    ensures is_the_clause { result ≡ clause_of S.ops (counted numbers.now) (counted literals.now) }
+    ensures may_be_exactly_the_ors { (i : ℕ) (b : Bool) → i < S.lanes → S.may result i b ≡ clause_set (λ k. S.may (S.ops.reading (slice_index (counted numbers.now) k)) i) (counted literals.now) b }
     ensures each_set_is_as_named { SetsAre }
-    ensures covers_each_assignment { (i : ℕ) (α : ℕ → Bool) → i < lanes → Agrees ops may i (counted numbers.now) α → may result i (holds α (counted literals.now)) ≡ true }
+    ensures covers_each_assignment { (i : ℕ) (α : ℕ → Bool) → i < S.lanes → Agrees S.ops S.may i (counted numbers.now) α → S.may result i (holds α (counted literals.now)) ≡ true }
 {
     clause_of(counted(numbers), counted(literals))
 }
@@ -140,11 +140,11 @@ pub fn clause_value<S: Signal>(numbers: &[u32], literals: &[u32]) -> S
 // to values[first + 1], and so on, as far as there are places. A node that is not there counts as 0, and a last literal
 // without a partner is no gate.
 pub fn gate_values<S: Signal>(pairs: &[u32], first: usize, values: &mut [S])
-    ensures runs_the_gates { values.new ≡ gates_of ops (counted pairs.now) first (counted values.old) ++ uncounted values.old }
+    ensures runs_the_gates { values.new ≡ gates_of S.ops (counted pairs.now) first (counted values.old) ++ uncounted values.old }
     ensures keeps_lower_nodes { (k : ℕ) (d : S) → k < first → slice_index_or values.new k d ≡ slice_index_or values.old k d }
-    ensures settles_each_gate { Ordered (counted pairs.now) first → first + length (counted pairs.now) / 2 ≤ length (counted values.old) → Settled ops (counted values.new) (counted pairs.now) first }
-    ensures covers_the_gates_of_bits { (i : ℕ) (bits : List Bool) → i < lanes → Covers may i (counted values.old) bits → Covers may i (counted values.new) (gates_of bit_ops (counted pairs.now) first bits) }
-    ensures covers_each_assignment { (i : ℕ) (α : ℕ → Bool) → i < lanes → Ordered (counted pairs.now) first → Gated α (counted pairs.now) first → CoversTo may i first (counted values.old) α → CoversTo may i (first + length (counted pairs.now) / 2) (counted values.new) α }
+    ensures settles_each_gate { Ordered (counted pairs.now) first → first + length (counted pairs.now) / 2 ≤ length (counted values.old) → Settled S.ops (counted values.new) (counted pairs.now) first }
+    ensures covers_the_gates_of_bits { (i : ℕ) (bits : List Bool) → i < S.lanes → Covers S.may i (counted values.old) bits → Covers S.may i (counted values.new) (gates_of bit_ops (counted pairs.now) first bits) }
+    ensures covers_each_assignment { (i : ℕ) (α : ℕ → Bool) → i < S.lanes → Ordered (counted pairs.now) first → Gated α (counted pairs.now) first → CoversTo S.may i first (counted values.old) α → CoversTo S.may i (first + length (counted pairs.now) / 2) (counted values.new) α }
 {
     let room = counted_len(values.len());
     run_gates(counted(pairs), first, &mut values[0..room]);
