@@ -74,7 +74,7 @@ fn step_in<S: Signal>(sheet: &[u32], state: &mut [S], inputs: &[S], scratch: &mu
     requires legal { Legal sheet.now }
     requires latches { length state.old ≡ latch_count sheet.now }
     requires inputs { length inputs.now ≡ input_count sheet.now }
-    requires blank { scratch.old ≡ replicate 249 (ops.known false) }
+    requires blank { scratch.old ≡ replicate 249 (S.ops.known false) }
     ensures { (result, state.new) ≡ step_signals S.ops sheet.now inputs.now state.old }
 {
     let first_gate = 1 + inputs.len() + state.len();
