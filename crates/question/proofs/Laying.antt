@@ -1,6 +1,6 @@
 -- What the pen leaves is the layout. Assumes nothing.
-use Rattle.std.proofs.Common.{◌≡◌, ℕ, suc, ◌+◌, ◌-◌, ◌≤◌, List, [], ◌∷◌, ◌++◌, length, get_or, take, drop, set, replicate, sym, refl, ap, ◌∙◌, arith, length-drop}
-use Rattle.std.proofs.lemmas.List.{append_assoc, append-nil, set_at, take_at, take-append-drop, drop_more, drop_all, length-take-le, length-append, length_push}
+use Rattle.std.proofs.Common.{◌≡◌, ℕ, suc, ◌+◌, ◌-◌, ◌≤◌, List, [], ◌∷◌, ◌++◌, length, take, drop, set, replicate, sym, refl, ap, ◌∙◌, arith, length-drop}
+use Rattle.std.proofs.lemmas.List.{append_assoc, set_at, take-append-drop, length-take-le, length-append, length_push, length-replicate, replicate-append-replicate}
 use Rattle.question.specs.declared.pen.Pen.{Pen}
 use Rattle.question.specs.Layout.{flat, starts, encode, written}
 use Rattle.question.specs.Writing.{pen, begun, pushes, puts, closed}
@@ -61,88 +61,43 @@ length_encode v a cs =
     let e : ℕ = 4 + length cs + length (flat cs) in
     omega (arith, length-append (starts (4 + length cs) cs) (e ∷ flat cs), length_starts cs (4 + length cs))
 
--- three numbers are replaced in front
-set_three : (q : List ℕ) (v c a : ℕ) → 3 ≤ length q → set (set (set q 0 v) 1 c) 2 a ≡ v ∷ c ∷ a ∷ drop 3 q
-set_three [] v c a h = absurd (omega arith)
-set_three (x ∷ []) v c a h = absurd (omega arith)
-set_three (x ∷ y ∷ []) v c a h = absurd (omega arith)
-set_three (x ∷ y ∷ z ∷ q) v c a h = refl
-
--- p is the page after the clauses cs, in a list that was old
-module _ (v a : ℕ) (cs : List (List ℕ)) (old : List ℕ) (room : length (encode v a cs) ≤ length old) (p : List ℕ × Pen) (is : p ≡ puts (begun old v (length cs) a) cs) where
+-- p is the page after the clauses cs, in a list of n places
+module _ (v a : ℕ) (cs : List (List ℕ)) (n : ℕ) (room : length (encode v a cs) ≤ n) (p : List ℕ × Pen) (is : p ≡ puts (begun n v (length cs) a) cs) where
   size : length (encode v a cs) ≡ 4 + length cs + length (flat cs)
   size = length_encode v a cs
+
+  abbrev zs : List ℕ
+  zs = replicate (n - length (encode v a cs)) 0
 
   abbrev t : ℕ
   t = 4 + length cs
 
-  -- what the places replace, the place of the end, what the literals replace, and the rest
-  abbrev behind : List ℕ
-  behind = drop 3 old
+  zeros : replicate (n - 3) 0 ≡ replicate (length cs) 0 ++ ((0 ∷ []) ++ ([] ++ (replicate (length (flat cs)) 0 ++ zs)))
+  zeros =
+      let e : n - 3 ≡ length cs + suc (length (flat cs) + (n - length (encode v a cs))) = omega (arith, size) in
+      ap (λ m. replicate m 0) e ∙ sym (replicate-append-replicate (length cs) (suc (length (flat cs) + (n - length (encode v a cs)))) 0)
+      ∙ ap (λ l. replicate (length cs) 0 ++ (0 ∷ l)) (sym (replicate-append-replicate (length (flat cs)) (n - length (encode v a cs)) 0))
 
-  abbrev us : List ℕ
-  us = take (length cs) behind
+  head : set (set (set (replicate n 0) 0 v) 1 (length cs)) 2 a ≡ v ∷ length cs ∷ a ∷ replicate (n - 3) 0
+  head = let e : n ≡ suc (suc (suc (n - 3))) = omega (arith, size) in ap (λ m. set (set (set (replicate m 0) 0 v) 1 (length cs)) 2 a) e
 
-  abbrev u : ℕ
-  u = get_or behind (length cs) 0
-
-  abbrev later : List ℕ
-  later = drop (length cs + 1) behind
-
-  abbrev ws : List ℕ
-  ws = take (length (flat cs)) later
-
-  abbrev ys : List ℕ
-  ys = drop (length (flat cs)) later
-
-  behind_length : length behind ≡ length old - 3
-  behind_length = length-drop 3 old
-
-  later_length : length later ≡ length old - 3 - (length cs + 1)
-  later_length = omega (arith, length-drop (length cs + 1) behind, behind_length)
-
-  ys_length : length ys ≡ length old - length (encode v a cs)
-  ys_length = omega (arith, length-drop (length (flat cs)) later, later_length, size)
-
-  split : behind ≡ us ++ ((u ∷ []) ++ ([] ++ (ws ++ ys)))
-  split =
-      sym (take-append-drop (length cs) behind)
-      ∙ ap (λ x. us ++ x)
-      (drop_more behind (length cs) 0 (omega (arith, behind_length, size)) ∙ ap (λ x. u ∷ x) (sym (take-append-drop (length (flat cs)) later)))
-
-  done : p ≡ ((v ∷ length cs ∷ a ∷ []) ++ (starts t cs ++ ((u ∷ []) ++ ([] ++ (flat cs ++ ys)))), pen (3 + length cs) (t + length (flat cs)))
+  done : p ≡ ((v ∷ length cs ∷ a ∷ []) ++ (starts t cs ++ ((0 ∷ []) ++ ([] ++ (flat cs ++ zs)))), pen (3 + length cs) (t + length (flat cs)))
   done =
-      let many : length us ≡ length cs = length-take-le (length cs) behind (omega (arith, behind_length, size)) in
-      let most : length ws ≡ length (flat cs) = length-take-le (length (flat cs)) later (omega (arith, later_length, size)) in
-      is ∙ ap (λ q. puts (q, pen 3 t) cs) (set_three old v (length cs) a (omega (arith, size)) ∙ ap (λ q. v ∷ length cs ∷ a ∷ q) split)
-      ∙ laid cs us ws many most (v ∷ length cs ∷ a ∷ []) (u ∷ []) [] ys 3 t refl (omega (arith, many))
+      is ∙ ap (λ q. puts (q, pen 3 t) cs) (head ∙ ap (λ q. v ∷ length cs ∷ a ∷ q) zeros)
+      ∙ laid cs (replicate (length cs) 0) (replicate (length (flat cs)) 0) (length-replicate {A = ℕ} (length cs) 0) (length-replicate {A = ℕ} (length (flat cs)) 0) (v ∷ length cs ∷ a ∷ []) (0 ∷ []) [] zs 3 t refl
+      (omega (arith, length-replicate {A = ℕ} (length cs) 0))
 
-  pub closed_is : closed p ≡ (length (encode v a cs), encode v a cs ++ replicate (length old - length (encode v a cs)) 0)
+  pub closed_is : closed p ≡ (length (encode v a cs), encode v a cs ++ zs)
   closed_is =
       let b : List ℕ = v ∷ length cs ∷ a ∷ starts t cs in
       let e : ℕ = t + length (flat cs) in
-      let page : List ℕ = b ++ (u ∷ (flat cs ++ ys)) in
-      let list : set page (3 + length cs) e ≡ encode v a cs ++ ys =
-      set_at b u (flat cs ++ ys) e (3 + length cs) (omega (arith, length_starts cs t)) ∙ sym (append_assoc b (e ∷ flat cs) ys) in
-      let rest : length page - e ≡ length old - length (encode v a cs) =
-      omega (arith, length-append b (u ∷ (flat cs ++ ys)), length-append (flat cs) ys, length_starts cs t, ys_length) in
-      ap closed done ∙ ap (λ l. (e, take e l ++ replicate (length page - e) 0)) list
-      ∙ ap (λ l. (e, l ++ replicate (length page - e) 0)) (take_at (encode v a cs) ys e size)
-      ∙ ap (λ m. (e, encode v a cs ++ replicate m 0)) rest
-      ∙ ap (λ m. (m, encode v a cs ++ replicate (length old - length (encode v a cs)) 0)) (sym size)
+      let list : set (b ++ (0 ∷ (flat cs ++ zs))) (3 + length cs) e ≡ encode v a cs ++ zs =
+      set_at b 0 (flat cs ++ zs) e (3 + length cs) (omega (arith, length_starts cs t)) ∙ sym (append_assoc b (e ∷ flat cs) zs) in
+      ap closed done ∙ ap (λ l. (e, l)) list ∙ ap (λ m. (m, encode v a cs ++ zs)) (sym size)
 
 -- the same, with other names for what was written in front
-pub written_is : (v a : ℕ) (cs : List (List ℕ)) (old : List ℕ) (v' c a' : ℕ) → v' ≡ v → c ≡ length cs → a' ≡ a → 4 + length cs + length (flat cs) ≤ length old →
-    (p q : List ℕ × Pen) → p ≡ begun old v' c a' → q ≡ puts p cs → (r : ℕ × List ℕ) → r ≡ closed q → r ≡ written (encode v a cs) (length old)
-written_is v a cs old v' c a' vs counts firsts room p q begins puts-all r ends =
-    let head : p ≡ begun old v (length cs) a = begins ∙ (λ i. begun old (vs i) (counts i) (firsts i)) in
-    ends ∙ closed_is v a cs old (omega (arith, length_encode v a cs)) q (puts-all ∙ ap (λ x. puts x cs) head)
-
--- zeros from a place on, as they were filled in
-pub closed_by : (xs zs : List ℕ) (to n : ℕ) → to ≤ length xs → length xs ≡ n → zs ≡ replicate (length (take (n - to) (drop to xs))) 0 →
-    take to xs ++ (zs ++ drop (n - to) (drop to xs)) ≡ take to xs ++ replicate (n - to) 0
-closed_by xs zs to n there long filled =
-    let all : length (drop to xs) ≡ n - to = omega (arith, length-drop to xs) in
-    let some : length (take (n - to) (drop to xs)) ≡ n - to = length-take-le (n - to) (drop to xs) (omega (arith, all)) in
-    ap (λ l. take to xs ++ (zs ++ l)) (drop_all (n - to) (drop to xs) (omega (arith, all)))
-    ∙ ap (λ l. take to xs ++ l) (append-nil zs ∙ filled ∙ ap (λ m. replicate m 0) some)
+pub written_is : (v a : ℕ) (cs : List (List ℕ)) (n v' c a' : ℕ) → v' ≡ v → c ≡ length cs → a' ≡ a → 4 + length cs + length (flat cs) ≤ n →
+    (p q : List ℕ × Pen) → p ≡ begun n v' c a' → q ≡ puts p cs → (r : ℕ × List ℕ) → r ≡ closed q → r ≡ written (encode v a cs) n
+written_is v a cs n v' c a' vs counts firsts room p q begins puts-all r ends =
+    let head : p ≡ begun n v (length cs) a = begins ∙ (λ i. begun n (vs i) (counts i) (firsts i)) in
+    ends ∙ closed_is v a cs n (omega (arith, length_encode v a cs)) q (puts-all ∙ ap (λ x. puts x cs) head)

@@ -103,11 +103,11 @@ of_latch_in_frame_one w i m j = nat_le (w + 1 + i) j && nat_lt j (w + 1 + i + m)
 
 -- in the path question at bound k, variables of frame 0 and of formula gates are local to the first part
 abbrev pub is_local : Sheet → ℕ → ℕ → Bool
-is_local s k j = of_frame_zero_or_gate (width s) ((k + 2) * width s) j
+is_local s k j = nat_lt j (width s) || nat_le ((k + 2) * width s) j
 
 -- and the latches of frame 1 are what the parts share
 abbrev pub is_shared : Sheet → ℕ → Bool
-is_shared s j = of_latch_in_frame_one (width s) s.inputs s.latches j
+is_shared s j = nat_le (width s + 1 + s.inputs) j && nat_lt j (width s + 1 + s.inputs + s.latches)
 
 -- which variables the parts of a path question have
 pub record Sides (s : Sheet) (f : List ℕ) (n r k : ℕ) : Type 0 where

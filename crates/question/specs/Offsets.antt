@@ -49,9 +49,18 @@ pub record PathNumbered (s : Sheet) (f : List ℕ) (n r k a c : ℕ) (clause : �
   pub formula : clause (formula_number s n) ≡ (in_question (width s) (k + 2) r ∷ [])
   pub bad : clause (bad_number s n k) ≡ stretch (λ t. in_frame (width s) t s.bad ∷ []) 1 (k + 1)
 
-abbrev pub PathNumbers : Sheet → List ℕ → ℕ → ℕ → ℕ → Type 0
-PathNumbers s f n r k =
-    PathNumbered s f n r k (length (first_clauses s f n r k)) (length (path_clauses s f n r k)) (λ i. get_or (path_clauses s f n r k) i [])
+pub record PathNumbers (s : Sheet) (f : List ℕ) (n r k : ℕ) : Type 0 where
+  pub first_size : length (first_clauses s f n r k) ≡ first_clause_count s n
+  pub size : length (path_clauses s f n r k) ≡ first_clause_count s n + second_clause_count s k
+  pub constants : (t : ℕ) → t ≤ k + 1 → slice_index_or (path_clauses s f n r k) (frame_start s n t) [] ≡ (in_frame (width s) t 1 ∷ [])
+  pub gates : (t g e : ℕ) → t ≤ k + 1 → g < s.gates → e < 3
+      → slice_index_or (path_clauses s f n r k) (gate_number s n t g + e) [] ≡ slice_index_or (gate_clauses s t g) e []
+  pub latches : (t i e : ℕ) → t ≤ k → i < s.latches → e < 2
+      → slice_index_or (path_clauses s f n r k) (latch_number s n k t i + e) [] ≡ slice_index_or (latch_clauses s t i) e []
+  pub formula_gates : (g e : ℕ) → g < n → e < 3
+      → slice_index_or (path_clauses s f n r k) (formula_number s g + e) [] ≡ slice_index_or (formula_gate s (k + 2) f g) e []
+  pub formula : get_or (path_clauses s f n r k) (formula_number s n) [] ≡ (in_question (width s) (k + 2) r ∷ [])
+  pub bad : get_or (path_clauses s f n r k) (bad_number s n k) [] ≡ stretch (λ t. in_frame (width s) t s.bad ∷ []) 1 (k + 1)
 
 -- ---- numbers in a question with one frame, at whose end a formula literal x and a literal y have to be true
 pub record StateNumbered (s : Sheet) (f : List ℕ) (n x y c : ℕ) (clause : ℕ → List ℕ) : Type 0 where
@@ -62,8 +71,13 @@ pub record StateNumbered (s : Sheet) (f : List ℕ) (n x y c : ℕ) (clause : �
   pub first : clause (frame_size s + 3 * n) ≡ (in_question (width s) 1 x ∷ [])
   pub second : clause (frame_size s + 3 * n + 1) ≡ (y ∷ [])
 
-abbrev pub StateNumbers : Sheet → List ℕ → ℕ → ℕ → ℕ → List (List ℕ) → Type 0
-StateNumbers s f n x y cs = StateNumbered s f n x y (length cs) (λ i. get_or cs i [])
+pub record StateNumbers (s : Sheet) (f : List ℕ) (n x y : ℕ) (cs : List (List ℕ)) : Type 0 where
+  pub size : length cs ≡ state_clause_count s n
+  pub constant : get_or cs 0 [] ≡ (in_frame (width s) 0 1 ∷ [])
+  pub gates : (g e : ℕ) → g < s.gates → e < 3 → slice_index_or cs (1 + 3 * g + e) [] ≡ slice_index_or (gate_clauses s 0 g) e []
+  pub formula_gates : (g e : ℕ) → g < n → e < 3 → slice_index_or cs (frame_size s + 3 * g + e) [] ≡ slice_index_or (formula_gate s 1 f g) e []
+  pub first : get_or cs (frame_size s + 3 * n) [] ≡ (in_question (width s) 1 x ∷ [])
+  pub second : get_or cs (frame_size s + 3 * n + 1) [] ≡ (y ∷ [])
 
 abbrev pub StartNumbers : Sheet → List ℕ → ℕ → ℕ → Type 0
 StartNumbers s f n r = StateNumbers s f n r (in_frame (width s) 0 s.bad) (start_clauses s f n r)

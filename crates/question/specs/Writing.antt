@@ -1,5 +1,5 @@
 -- What the pen does to a list. Assumes nothing.
-use Rattle.std.specs.Prelude.{◌≡◌, ℕ, ◌+◌, ◌-◌, ◌^◌, ◌<◌, ◌≤◌, List, [], ◌∷◌, ◌++◌, length, take, replicate, slice_set}
+use Rattle.std.specs.Prelude.{◌≡◌, ℕ, ◌+◌, ◌^◌, ◌<◌, ◌≤◌, List, [], ◌∷◌, length, replicate, slice_set}
 use Rattle.formula.specs.Formulas.{left_of, right_of}
 use Rattle.formula.specs.Framing.{in_question}
 use Rattle.formula.specs.declared.question_literal.QuestionLiteral.{QuestionLiteral}
@@ -11,9 +11,9 @@ pen a t = record { at = a; to = t }
 abbrev pub number : QuestionLiteral → ℕ
 number x = x.0
 
--- a list with the counts in front, and a pen before the first of c clauses
-abbrev pub begun : List ℕ → ℕ → ℕ → ℕ → List ℕ × Pen
-begun q v c a = (slice_set (slice_set (slice_set q 0 v) 1 c) 2 a, pen 3 (4 + c))
+-- n places with the counts in front, and a pen before the first of c clauses
+abbrev pub begun : ℕ → ℕ → ℕ → ℕ → List ℕ × Pen
+begun n v c a = (slice_set (slice_set (slice_set (replicate n 0) 0 v) 1 c) 2 a, pen 3 (4 + c))
 
 -- the next clause starts
 abbrev pub opened : List ℕ × Pen → List ℕ × Pen
@@ -35,9 +35,9 @@ abbrev pub puts : List ℕ × Pen → List (List ℕ) → List ℕ × Pen
 puts p [] = p
 puts p (c ∷ cs) = puts (put p c) cs
 
--- after the last clause: how long the question is, and the list, with zeros behind it
+-- after the last clause: how long the question is, and the list
 abbrev pub closed : List ℕ × Pen → ℕ × List ℕ
-closed p = (p.1.to, take p.1.to (slice_set p.0 p.1.at p.1.to) ++ replicate (length p.0 - p.1.to) 0)
+closed p = (p.1.to, slice_set p.0 p.1.at p.1.to)
 
 -- there is room for n clauses of m literals in all
 abbrev pub Room : List ℕ → Pen → ℕ → ℕ → Type 0

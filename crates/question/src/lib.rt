@@ -3,6 +3,7 @@
 
 pub mod build;
 mod gates;
+pub mod laws;
 mod path;
 mod pen;
 pub mod read;

@@ -12,12 +12,13 @@ pub(crate) struct Pen {
     pub to: usize,
 }
 
-// The counts of a question.
+// The counts of a question, with nothing but zeros behind them.
 pub(crate) fn begin(question: &mut [u32], variables: u32, clauses: usize, first: usize) -> Pen
     requires room { 4 + clauses ≤ length question.old }
     requires bits { (clauses < 2 ^ 32) × (first < 2 ^ 32) }
-    ensures { (question.new, result) ≡ begun question.old variables clauses first }
+    ensures { (question.new, result) ≡ begun (length question.old) variables clauses first }
 {
+    question.fill(0);
     question[0] = variables;
     question[1] = clauses as u32;
     question[2] = first as u32;
@@ -82,13 +83,11 @@ pub(crate) fn put_and(
     put_clause(question, pen, &[right.opposite(), left.opposite(), gate])
 }
 
-// The place where the last clause ends, which is how long the question is, and zeros behind it.
+// The place where the last clause ends, which is how long the question is.
 pub(crate) fn finish(question: &mut [u32], pen: Pen) -> usize
-    requires { (pen.at < pen.to) × ((pen.to ≤ length question.old) × (pen.to < 2 ^ 32)) }
+    requires { (pen.at < length question.old) × (pen.to < 2 ^ 32) }
     ensures { (result, question.new) ≡ closed (question.old, pen) }
 {
-    let end = pen.to;
-    question[pen.at] = end as u32;
-    question[end..].fill(0);
-    end
+    question[pen.at] = pen.to as u32;
+    pen.to
 }

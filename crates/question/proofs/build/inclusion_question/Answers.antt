@@ -10,8 +10,8 @@ use Rattle.question.proofs.Posing.{posed_not, posed_counted, given_ready, front_
 use Rattle.question.proofs.Promises.{state_long, inclusion_takes, inclusion_lays, inclusion_is_question, inclusion_asks_outside, inclusion_tells_state, inclusion_numbers_clauses}
 use Rattle.question.proofs.build.inclusion_question.Goals as goal
 
-pub returns-then-not-is_given : goal.returns-then-not-is_given
-returns-then-not-is_given c =
+pub returns-then-not-is_given-clause-poses_the_inclusion_question : goal.returns-then-not-is_given-clause-poses_the_inclusion_question
+returns-then-not-is_given-clause-poses_the_inclusion_question c =
     let l = c.args.sheet.now in
     let f = c.args.formula.now in
     let n = c.args.gates in
@@ -19,16 +19,84 @@ returns-then-not-is_given c =
     let r = c.args.r.0 in
     let old = c.args.question.now in
     let is = posed_not (given l f n) (inclusion_list (sheet_of (counted l)) (counted f) n p r) old (sym c.if-not-is_given.ensures) in
-    record {
-      poses_the_inclusion_question = is;
-      takes_all_that_fits = inclusion_takes l f n old None old p r is;
-      has_a_closed_length = state_long (sheet_of (counted l)) (counted f) n p (in_question (width (sheet_of (counted l))) 1 (opposite r));
-      lays_out_the_clauses = inclusion_lays l f n old None old p r is;
-      is_a_question = inclusion_is_question l f n old None old p r is;
-      asks_for_a_state_outside = inclusion_asks_outside l f n old None old p r is;
-      tells_the_state = inclusion_tells_state l f n old None old p r is;
-      numbers_the_clauses = inclusion_numbers_clauses l f n old None old p r is;
-    }
+    is
+
+pub returns-then-not-is_given-clause-takes_all_that_fits : goal.returns-then-not-is_given-clause-takes_all_that_fits
+returns-then-not-is_given-clause-takes_all_that_fits c =
+    let l = c.args.sheet.now in
+    let f = c.args.formula.now in
+    let n = c.args.gates in
+    let p = c.args.p.0 in
+    let r = c.args.r.0 in
+    let old = c.args.question.now in
+    let is = posed_not (given l f n) (inclusion_list (sheet_of (counted l)) (counted f) n p r) old (sym c.if-not-is_given.ensures) in
+    inclusion_takes l f n old None old p r is
+
+pub returns-then-not-is_given-clause-has_a_closed_length : goal.returns-then-not-is_given-clause-has_a_closed_length
+returns-then-not-is_given-clause-has_a_closed_length c =
+    let l = c.args.sheet.now in
+    let f = c.args.formula.now in
+    let n = c.args.gates in
+    let p = c.args.p.0 in
+    let r = c.args.r.0 in
+    let old = c.args.question.now in
+    let is = posed_not (given l f n) (inclusion_list (sheet_of (counted l)) (counted f) n p r) old (sym c.if-not-is_given.ensures) in
+    state_long (sheet_of (counted l)) (counted f) n p (in_question (width (sheet_of (counted l))) 1 (opposite r))
+
+pub returns-then-not-is_given-clause-lays_out_the_clauses : goal.returns-then-not-is_given-clause-lays_out_the_clauses
+returns-then-not-is_given-clause-lays_out_the_clauses c =
+    let l = c.args.sheet.now in
+    let f = c.args.formula.now in
+    let n = c.args.gates in
+    let p = c.args.p.0 in
+    let r = c.args.r.0 in
+    let old = c.args.question.now in
+    let is = posed_not (given l f n) (inclusion_list (sheet_of (counted l)) (counted f) n p r) old (sym c.if-not-is_given.ensures) in
+    inclusion_lays l f n old None old p r is
+
+pub returns-then-not-is_given-clause-is_a_question : goal.returns-then-not-is_given-clause-is_a_question
+returns-then-not-is_given-clause-is_a_question c =
+    let l = c.args.sheet.now in
+    let f = c.args.formula.now in
+    let n = c.args.gates in
+    let p = c.args.p.0 in
+    let r = c.args.r.0 in
+    let old = c.args.question.now in
+    let is = posed_not (given l f n) (inclusion_list (sheet_of (counted l)) (counted f) n p r) old (sym c.if-not-is_given.ensures) in
+    inclusion_is_question l f n old None old p r is
+
+pub returns-then-not-is_given-clause-asks_for_a_state_outside : goal.returns-then-not-is_given-clause-asks_for_a_state_outside
+returns-then-not-is_given-clause-asks_for_a_state_outside c =
+    let l = c.args.sheet.now in
+    let f = c.args.formula.now in
+    let n = c.args.gates in
+    let p = c.args.p.0 in
+    let r = c.args.r.0 in
+    let old = c.args.question.now in
+    let is = posed_not (given l f n) (inclusion_list (sheet_of (counted l)) (counted f) n p r) old (sym c.if-not-is_given.ensures) in
+    inclusion_asks_outside l f n old None old p r is
+
+pub returns-then-not-is_given-clause-tells_the_state : goal.returns-then-not-is_given-clause-tells_the_state
+returns-then-not-is_given-clause-tells_the_state c =
+    let l = c.args.sheet.now in
+    let f = c.args.formula.now in
+    let n = c.args.gates in
+    let p = c.args.p.0 in
+    let r = c.args.r.0 in
+    let old = c.args.question.now in
+    let is = posed_not (given l f n) (inclusion_list (sheet_of (counted l)) (counted f) n p r) old (sym c.if-not-is_given.ensures) in
+    inclusion_tells_state l f n old None old p r is
+
+pub returns-then-not-is_given-clause-numbers_the_clauses : goal.returns-then-not-is_given-clause-numbers_the_clauses
+returns-then-not-is_given-clause-numbers_the_clauses c =
+    let l = c.args.sheet.now in
+    let f = c.args.formula.now in
+    let n = c.args.gates in
+    let p = c.args.p.0 in
+    let r = c.args.r.0 in
+    let old = c.args.question.now in
+    let is = posed_not (given l f n) (inclusion_list (sheet_of (counted l)) (counted f) n p r) old (sym c.if-not-is_given.ensures) in
+    inclusion_numbers_clauses l f n old None old p r is
 
 pub placed-outside-requires : goal.placed-outside-requires
 placed-outside-requires c =

@@ -20,5 +20,5 @@ returns c =
     let first = c.first_size-first.ensures.clauses in
     let clauses = (λ i. first i + c.second_size.ensures.clauses i) ∙ sym (path_length s k f n r) in
     let page = two_parts (first_clauses s f n r k) (second_clauses s k) p _ q c.put_first-pen.ensures.page c.put_second-pen.ensures.page in
-    written_is ((k + 2) * width s + n) (length (first_clauses s f n r k)) (path_clauses s f n r k) c.args.question.now _ _ _ (ap (λ (w : ℕ). (k + 2) * w + n) c.node_count.ensures) clauses (first ∙ sym (first_length s f n r k))
+    written_is ((k + 2) * width s + n) (length (first_clauses s f n r k)) (path_clauses s f n r k) (length c.args.question.now) _ _ _ (ap (λ (w : ℕ). (k + 2) * w + n) c.node_count.ensures) clauses (first ∙ sym (first_length s f n r k))
     (omega (arith, path_length s k f n r, path_literals s k f n r)) p q c.begin-pen.ensures page _ c.finish.ensures
