@@ -9,7 +9,7 @@ returns-then-i-number_at c =
     record {
       keeps_its_word = no_word _ _ _ _;
       replies_as_it_may =
-          used_up c.args.self.now.tape.now c.args.question.now c.args.answer.now c.args.-work.now c.args.self.now.position
+          used_up c.args.self.now.tape.now c.args.question.now c.args.answer.now c.args._work.now c.args.self.now.position
           c.counted-tape.result.now c.counted-tape.ensures.value past;
     }
 
@@ -19,7 +19,7 @@ returns c =
     record {
       keeps_its_word = no_word _ _ _ _;
       replies_as_it_may =
-          one_more c.args.self.now.tape.now c.args.question.now c.args.answer.now c.args.-work.now c.args.self.now.position
+          one_more c.args.self.now.tape.now c.args.question.now c.args.answer.now c.args._work.now c.args.self.now.position
           c.counted-tape.result.now c.counted-tape.ensures.value c.variable_count.result c.variable_count.ensures.is_the_first_number
           (c.counted_len-room.result - 0) (omega (arith, c.counted_len-room.ensures)) less c.recite.result c.recite.new.answer c.recite.ensures;
     }
