@@ -1,5 +1,5 @@
 -- Drawing adds gates behind those that there are, and leaves the rest of the formula list alone. Assumes nothing.
-use Rattle.std.proofs.Common.{◌≡◌, ℕ, zero, suc, ◌+◌, ◌-◌, ◌*◌, ◌^◌, min, max, ◌&&◌, ltb, leb, ◌≢◌, List, [], ◌∷◌, length, get_or, set, replicate, IfOk, Some, None, Option, Result, sym, refl, ◌∙◌, subst, arith, length-set}
+use Rattle.std.proofs.Common.{◌/◌, ◌≡◌, ℕ, zero, suc, ◌+◌, ◌-◌, ◌*◌, ◌^◌, min, max, ◌&&◌, ltb, leb, ◌≢◌, List, [], ◌∷◌, length, get_or, set, replicate, IfOk, Some, None, Option, Result, sym, refl, ◌∙◌, subst, arith, length-set}
 use Rattle.std.proofs.lemmas.List.{get_or-set_other}
 use Rattle.std.proofs.lemmas.Bool.{cond_both}
 use Rattle.lists.specs.Counted.{counted}
@@ -9,9 +9,9 @@ use Rattle.formula.specs.Starting.{onward}
 use Rattle.question.specs.Questions.{clause_count, clause_of}
 use Rattle.answer.specs.Steps.{step_of}
 use Rattle.answer.specs.declared.steps.Step.{Step}
-use Rattle.interpolant.specs.Drawing.{or_latch, or_shared, draw_step, draw_line, Drawing, whole, broken, proceed, draw_lines, Found, answered, interpolation, Adds}
+use Rattle.interpolant.specs.Drawing.{or_shared, draw_step, draw_line, Drawing, whole, broken, proceed, draw_lines, Found, answered, interpolation, Adds}
 use Rattle.interpolant.specs.Interpolation.{Cut, line_count}
-use Rattle.interpolant.specs.Parting.{width_in, cut_of, latch_in}
+use Rattle.interpolant.specs.Parting.{width_in, cut_of}
 use Rattle.interpolant.specs.declared.draw.Short.{Short}
 use Rattle.interpolant.specs.declared.draw.Drawn.{Drawn}
 
@@ -65,10 +65,6 @@ negated_added f n short h = tt
 pub or_added : (w n : ℕ) (f : List ℕ) (a b : ℕ) → Added f n (disjoin w n f a b)
 or_added w n f a b = negated_added f n (conjoin w n f (opposite a) (opposite b)) (and_added w n f (opposite a) (opposite b))
 
-latch_added : (w : ℕ) (y : Option Literal) (x n : ℕ) (f : List ℕ) → Added f n (or_latch w y x n f)
-latch_added w None x n f = adds_refl f n
-latch_added w (Some y) x n f = or_added w n f x y.0
-
 onward_added : (f : List ℕ) (n : ℕ) (o : Outcome) (next : ℕ → ℕ → List ℕ → Outcome) → Added f n o → ((x m : ℕ) (g : List ℕ) → Added g m (next x m g)) → Added f n (onward o next)
 onward_added f n (grown x m g) next a rest = added_trans f g n m a (next x m g) (rest x m g)
 onward_added f n short next a rest = tt
@@ -89,7 +85,9 @@ module _ (w : ℕ) (u : Cut) (q t : List ℕ) where
   shared_added : (ys : List ℕ) (x n : ℕ) (f : List ℕ) → Added f n (or_shared w u ys x n f)
   shared_added [] x n f = adds_refl f n
   shared_added (y ∷ ys) x n f =
-      onward_added f n (or_latch w (latch_in w u y) x n f) (λ x n f. or_shared w u ys x n f) (latch_added w (latch_in w u y) x n f) (shared_added ys)
+      cond_both (u.shared (y / 2)) _ _ (Added f n)
+      (λ e. onward_added f n (disjoin w n f x (y - 2 * w)) (λ x n f. or_shared w u ys x n f) (or_added w n f x (y - 2 * w)) (shared_added ys))
+      (λ e. shared_added ys x n f)
 
   step_added : (vs : List ℕ) (s : Step) (n : ℕ) (f : List ℕ) → Added f n (draw_step w u vs s n f)
   step_added vs s n f =

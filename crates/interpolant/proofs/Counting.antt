@@ -1,5 +1,5 @@
 -- How many gates drawing needs at most. Assumes nothing.
-use Rattle.std.proofs.Common.{◌≡◌, ℕ, zero, suc, ◌+◌, ◌-◌, ◌*◌, ◌^◌, ◌<◌, ◌≤◌, min, max, ◌&&◌, ltb, leb, List, [], ◌∷◌, length, get_or, set, replicate, Some, None, Option, Result, sym, refl, ap, ◌∙◌, subst, ⊎_elim, arith, length-set, length-take}
+use Rattle.std.proofs.Common.{◌/◌, ◌≡◌, ℕ, zero, suc, ◌+◌, ◌-◌, ◌*◌, ◌^◌, ◌<◌, ◌≤◌, min, max, ◌&&◌, ltb, leb, List, [], ◌∷◌, length, get_or, set, replicate, Some, None, Option, Result, sym, refl, ap, ◌∙◌, subst, ⊎_elim, arith, length-set, length-take}
 use Rattle.std.proofs.lemmas.Bool.{cond_both, cond-true, cond-false, and_from, le-leb, lt-ltb, le-ltb, both_ways, cases_lt}
 use Rattle.lists.specs.Counted.{counted}
 use Rattle.sheet.specs.declared.literal.Literal.{Literal}
@@ -11,9 +11,9 @@ use Rattle.answer.specs.Steps.{step_count, step_of}
 use Rattle.answer.specs.declared.steps.Step.{Step}
 use Rattle.answer.proofs.Blaming.{total_within}
 use Rattle.answer.proofs.Laying.{total_next}
-use Rattle.interpolant.specs.Drawing.{or_latch, or_shared, draw_step, draw_line, Drawing, whole, broken, proceed, draw_lines, Found, answered, interpolation, most_gates, HasRoom, NeedsGates}
+use Rattle.interpolant.specs.Drawing.{or_shared, draw_step, draw_line, Drawing, whole, broken, proceed, draw_lines, Found, answered, interpolation, most_gates, HasRoom, NeedsGates}
 use Rattle.interpolant.specs.Interpolation.{Cut, line_count}
-use Rattle.interpolant.specs.Parting.{width_in, cut_of, latch_in}
+use Rattle.interpolant.specs.Parting.{width_in, cut_of}
 use Rattle.interpolant.specs.declared.draw.Short.{Short}
 use Rattle.interpolant.specs.declared.draw.Drawn.{Drawn}
 
@@ -45,10 +45,6 @@ module _ (w : ℕ) where
 
   or_costs : (n : ℕ) (f : List ℕ) (a b : ℕ) → Costs 1 n f (disjoin w n f a b)
   or_costs n f a b = negated_costs 1 n f (conjoin w n f (opposite a) (opposite b)) (and_costs n f (opposite a) (opposite b))
-
-  latch_costs : (y : Option Literal) (x n : ℕ) (f : List ℕ) → Costs 1 n f (or_latch w y x n f)
-  latch_costs None x n f = (omega arith, refl)
-  latch_costs (Some y) x n f = or_costs n f x y.0
 
   -- room that is left after a gates
   room_left : (a b c n m : ℕ) (f g : List ℕ) → a + b ≤ c → m ≤ n + a → length g ≡ length f → HasRoom w c n f → HasRoom w b m g
@@ -84,8 +80,10 @@ module _ (w : ℕ) where
     shared_costs : (ys : List ℕ) (x n : ℕ) (f : List ℕ) → Costs (length ys) n f (or_shared w u ys x n f)
     shared_costs [] x n f = (omega arith, refl)
     shared_costs (y ∷ ys) x n f =
-        onward_costs 1 (length ys) (length (y ∷ ys)) n f (omega arith) (or_latch w (latch_in w u y) x n f) (λ x n f. or_shared w u ys x n f)
-        (latch_costs (latch_in w u y) x n f) (shared_costs ys)
+        cond_both (u.shared (y / 2)) _ _ (Costs (length (y ∷ ys)) n f)
+        (λ e. onward_costs 1 (length ys) (length (y ∷ ys)) n f (omega arith) (disjoin w n f x (y - 2 * w)) (λ x n f. or_shared w u ys x n f)
+        (or_costs n f x (y - 2 * w)) (shared_costs ys))
+        (λ e. costs_trans 0 (length ys) (length (y ∷ ys)) n n f f (omega arith) (omega arith) refl (or_shared w u ys x n f) (shared_costs ys x n f))
 
     step_costs : (vs : List ℕ) (s : Step) (n : ℕ) (f : List ℕ) → Costs 1 n f (draw_step w u vs s n f)
     step_costs vs s n f =

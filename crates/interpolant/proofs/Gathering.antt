@@ -1,15 +1,13 @@
 -- The OR of a clause's shared literals. Assumes nothing.
-use Rattle.std.proofs.Common.{◌≡◌, ℕ, ◌+◌, ◌-◌, ◌*◌, ◌/◌, ◌%◌, ◌<◌, ◌≤◌, Bool, true, false, cond, not, ◌||◌, eqb, ◌⊎◌, List, [], ◌∷◌, Some, None, Decides, sym, refl, ap, ◌∙◌, subst, inl, inr, ⊎_elim, arith}
-use Rattle.std.proofs.lemmas.Bool.{cond-true, cond_both, and_from, le-leb, lt-ltb, or_cases, or_left, or_right, both_ways}
+use Rattle.std.proofs.Common.{◌≡◌, ℕ, ◌+◌, ◌-◌, ◌*◌, ◌/◌, ◌%◌, ◌<◌, ◌≤◌, Bool, true, false, cond, not, ◌||◌, eqb, ◌⊎◌, List, [], ◌∷◌, Decides, sym, refl, ap, ◌∙◌, subst, inl, inr, ⊎_elim, arith}
+use Rattle.std.proofs.lemmas.Bool.{cond_both, or_cases, or_left, or_right, both_ways}
 use Rattle.sheet.specs.Sheets.{Sheet}
 use Rattle.signal.specs.Truth.{lit}
-use Rattle.formula.specs.Built.{literal}
-use Rattle.formula.specs.Framing.{out_of_frame_one}
 use Rattle.formula.specs.Conjunction.{Outcome, grown, short, disjoin, Extends, Joins}
 use Rattle.formula.specs.Formulas.{width, nodes_at, Formula, Gates}
 use Rattle.formula.specs.Starting.{onward}
 use Rattle.formula.proofs.Valued.{node_latch, extends_refl, extends_trans, Fine, disjoin_fine}
-use Rattle.interpolant.specs.Drawing.{or_latch, or_shared}
+use Rattle.interpolant.specs.Drawing.{or_shared}
 use Rattle.interpolant.specs.Interpolation.{Cut, Shares}
 use Rattle.interpolant.specs.Meaning.{latches_at, value_under}
 
@@ -37,15 +35,6 @@ module _ (s : Sheet) (u : Cut) (latched : Latched s u) where
       ap (λ (r : ℕ). cond (eqb r 0) (nodes_at s f n (latches_at s α) ((x - 2 * w) / 2)) (not (nodes_at s f n (latches_at s α) ((x - 2 * w) / 2)))) sign
       ∙ ap (λ (b : Bool). cond (eqb (x % 2) 0) b (not b))
       (ap (nodes_at s f n (latches_at s α)) node ∙ node_latch s f n (latches_at s α) i (omega arith) ∙ ap α place)
-
-  -- it is found by the frame rule
-  framed : (x : ℕ) → u.shared (x / 2) ≡ true → out_of_frame_one w x ≡ Some (literal (x - 2 * w))
-  framed x h =
-      let l = latched (x / 2) h in
-      cond-true _ _ _ (and_from _ _ (le-leb w (x / 2) (omega (arith, l.0))) (lt-ltb (x / 2) (2 * w) (omega (arith, l.0, l.1))))
-
-  abbrev rest : List ℕ → ℕ → ℕ → List ℕ → Outcome
-  rest xs y n f = or_shared w u xs y n f
 
   -- z in the new list is the OR of y in the old one and of the shared literals of xs
   pub record Gathered (xs : List ℕ) (y n : ℕ) (f : List ℕ) (z n' : ℕ) (f' : List ℕ) : Type 0 where
@@ -104,9 +93,9 @@ module _ (s : Sheet) (u : Cut) (latched : Latched s u) where
 
   one_more : (x : ℕ) (xs : List ℕ) (y n : ℕ) (f : List ℕ) → u.shared (x / 2) ≡ true
       → ((y n : ℕ) (f : List ℕ) → Gates s f n → Formula s n y → Gathers xs y n f (or_shared w u xs y n f))
-      → (o : Outcome) → Fine s ◌||◌ f n y (x - 2 * w) o → Gathers (x ∷ xs) y n f (onward o (rest xs))
-  one_more x xs y n f h more (grown y₁ n₁ f₁) j = joined x xs y n f h y₁ n₁ f₁ j (or_shared w u xs y₁ n₁ f₁) (more y₁ n₁ f₁ j.extends.gates j.formula)
-  one_more x xs y n f h more short j = tt
+      → (o : Outcome) → Fine s ◌||◌ f n y (x - 2 * w) o → Gathers (x ∷ xs) y n f (onward o (λ y n f. or_shared w u xs y n f))
+  one_more x xs y n f h rest (grown y₁ n₁ f₁) j = joined x xs y n f h y₁ n₁ f₁ j (or_shared w u xs y₁ n₁ f₁) (rest y₁ n₁ f₁ j.extends.gates j.formula)
+  one_more x xs y n f h rest short j = tt
 
   pub shared_gathers : (xs : List ℕ) (y n : ℕ) (f : List ℕ) → Gates s f n → Formula s n y → Gathers xs y n f (or_shared w u xs y n f)
   shared_gathers [] y n f gates is_y =
@@ -116,7 +105,6 @@ module _ (s : Sheet) (u : Cut) (latched : Latched s u) where
         is = λ α. (λ e. inl e, λ e. ⊎_elim (λ p. p) (λ (m : Shares u α []). absurd m.1) e);
       }
   shared_gathers (x ∷ xs) y n f gates is_y =
-      cond_both (u.shared (x / 2)) (out_of_frame_one w x) None (λ o. Gathers (x ∷ xs) y n f (onward (or_latch w o y n f) (rest xs)))
-      (λ h. subst (λ o. Gathers (x ∷ xs) y n f (onward (or_latch w o y n f) (rest xs))) (sym (framed x h))
-      (one_more x xs y n f h (shared_gathers xs) (disjoin w n f y (x - 2 * w)) (disjoin_fine s f n y (x - 2 * w) gates is_y (latch_formula n x h))))
+      cond_both (u.shared (x / 2)) _ _ (Gathers (x ∷ xs) y n f)
+      (λ h. one_more x xs y n f h (shared_gathers xs) (disjoin w n f y (x - 2 * w)) (disjoin_fine s f n y (x - 2 * w) gates is_y (latch_formula n x h)))
       (λ h. skipped x xs y n f h (or_shared w u xs y n f) (shared_gathers xs y n f gates is_y))

@@ -1,5 +1,5 @@
 -- What the parts of a drawing do, turn by turn. Assumes nothing.
-use Rattle.std.proofs.Common.{◌≡◌, ℕ, suc, ◌+◌, ◌-◌, ◌*◌, ◌^◌, ◌<◌, ◌≤◌, min, max, true, false, ◌&&◌, ltb, leb, List, [], ◌++◌, length, get_or, take, drop, set, replicate, Some, None, Ok, Err, Option, Result, sym, refl, ap, ◌∙◌, subst, arith, length-take}
+use Rattle.std.proofs.Common.{◌≡◌, ℕ, suc, ◌+◌, ◌-◌, ◌*◌, ◌/◌, ◌^◌, ◌<◌, ◌≤◌, min, max, true, false, ◌&&◌, ltb, leb, List, [], ◌++◌, length, get_or, take, drop, set, replicate, Some, None, Ok, Err, Option, Result, sym, refl, ap, ◌∙◌, subst, arith, length-take}
 use borrow.Rule.Slice.PartMut.{post_of}
 use Rattle.std.proofs.lemmas.List.{append-nil, take_all, drop_all, drop_more, drop-set-lt}
 use Rattle.std.proofs.lemmas.Bool.{cond-true, cond-false, cond_both, and_parts, leb-true, le-leb, lt-leb, lt-ltb, le-ltb}
@@ -19,7 +19,7 @@ use Rattle.interpolant.specs.declared.draw.Short.{Short}
 use Rattle.interpolant.specs.declared.draw.Short.TheVariants.{LineValues, Formula}
 use Rattle.interpolant.specs.declared.draw.Drawn.{Drawn}
 use Rattle.interpolant.specs.Interpolation.{Cut, line_count}
-use Rattle.interpolant.specs.Drawing.{or_latch, or_shared, draw_step, draw_line, Drawing, whole, broken, proceed, draw_lines, Found, cleared, answered, draw_all, interpolation, Stays, Gives}
+use Rattle.interpolant.specs.Drawing.{or_shared, draw_step, draw_line, Drawing, whole, broken, proceed, draw_lines, Found, cleared, answered, draw_all, interpolation, Stays, Gives}
 use Rattle.interpolant.specs.Parting.{width_in, parts_of, cut_by, cut_of, latch_in}
 
 -- ---- zeros in the places that count
@@ -83,6 +83,18 @@ module _ (g : Builder) (f : List ℕ) (w n a b : ℕ) (r : Option Literal) (g' :
       (negated_kept f (conjoin w n f (opposite a) (opposite b)) (by_kept w n f (opposite a) (opposite b) (simple (opposite a) (opposite b)))) r g' f'
 
 -- ---- the shared literals of a clause
+latch_some : (u : Parts) (y : ℕ) (x : Literal) → Some x ≡ latch_in u y → ((cut_by u).shared (y / 2) ≡ true) × (x.0 ≡ y - 2 * u.width)
+latch_some u y x =
+    cond_both ((cut_by u).shared (y / 2)) (Some (literal (y - 2 * u.width))) None (λ o. Some x ≡ o → ((cut_by u).shared (y / 2) ≡ true) × (x.0 ≡ y - 2 * u.width))
+    (λ h e. (h, cc))
+    (λ h e. let z : ◌≡◌ {A = ℕ} 0 1 = cc in absurd (omega arith))
+
+latch_none : (u : Parts) (y : ℕ) → None ≡ latch_in u y → (cut_by u).shared (y / 2) ≡ false
+latch_none u y =
+    cond_both ((cut_by u).shared (y / 2)) (Some (literal (y - 2 * u.width))) None (λ o. None ≡ o → (cut_by u).shared (y / 2) ≡ false)
+    (λ h e. let z : ◌≡◌ {A = ℕ} 0 1 = cc in absurd (omega arith))
+    (λ h e. h)
+
 module _ (u : Parts) (ys : List ℕ) (i : ℕ) where
   abbrev w : ℕ
   w = u.width
@@ -90,24 +102,23 @@ module _ (u : Parts) (ys : List ℕ) (i : ℕ) where
   pub or_end : (x n : ℕ) (f : List ℕ) → length ys ≤ i → or_shared w (cut_by u) (drop i ys) x n f ≡ grown x n f
   or_end x n f h = rw (drop_all i ys h)
 
-  abbrev rest : ℕ → ℕ → List ℕ → Outcome
-  rest x n f = or_shared w (cut_by u) (drop (i + 1) ys) x n f
-
   module _ (l : i < length ys) where
-    pub or_skip : (x n : ℕ) (f : List ℕ) → None ≡ latch_in w (cut_by u) (get_or ys i 0)
+    pub or_skip : (x n : ℕ) (f : List ℕ) → None ≡ latch_in u (get_or ys i 0)
         → or_shared w (cut_by u) (drop i ys) x n f ≡ or_shared w (cut_by u) (drop (i + 1) ys) x n f
-    or_skip x n f none = rw (drop_more ys i 0 l) (ap (λ o. onward (or_latch w o x n f) rest) (sym none))
+    or_skip x n f none = rw (drop_more ys i 0 l) (cond-false _ _ _ (latch_none u (get_or ys i 0) none))
 
     -- by what OR answers, in a builder as wide as a frame
-    module _ (g : Builder) (f : List ℕ) (wide : g.width ≡ w) (x y : Literal) (latch : Some y ≡ latch_in w (cut_by u) (get_or ys i 0)) (g' : Builder) (f' : List ℕ) where
+    module _ (g : Builder) (f : List ℕ) (wide : g.width ≡ w) (x y : Literal) (latch : Some y ≡ latch_in u (get_or ys i 0)) (g' : Builder) (f' : List ℕ) where
       abbrev either : Outcome
       either = disjoin g.width g.count f x.0 y.0
 
       or_by : (o : Outcome) → either ≡ o
-          → or_shared w (cut_by u) (drop i ys) x.0 g.count f ≡ onward o rest
+          → or_shared w (cut_by u) (drop i ys) x.0 g.count f ≡ onward o (λ x n f. or_shared w (cut_by u) (drop (i + 1) ys) x n f)
       or_by o e =
-          let same : disjoin w g.count f x.0 y.0 ≡ either = sym (λ j. disjoin (wide j) g.count f x.0 y.0) in
-          rw (drop_more ys i 0 l) (ap (λ o. onward (or_latch w o x.0 g.count f) rest) (sym latch) ∙ ap (λ o. onward o rest) (same ∙ e))
+          let is = latch_some u (get_or ys i 0) y latch in
+          let same : disjoin w g.count f x.0 (get_or ys i 0 - 2 * w) ≡ either = sym (λ j. disjoin (wide j) g.count f x.0 (is.1 j)) in
+          rw (drop_more ys i 0 l)
+          (cond-true _ _ _ is.0 ∙ ap (λ o. onward o (λ x n f. or_shared w (cut_by u) (drop (i + 1) ys) x n f)) (same ∙ e))
 
       pub or_more : (z : Literal) → ◌≡◌ {A = Answer} (Some z, g', f') (built g f either)
           → (g'.width ≡ w) × (or_shared w (cut_by u) (drop i ys) x.0 g.count f ≡ or_shared w (cut_by u) (drop (i + 1) ys) z.0 g'.count f')

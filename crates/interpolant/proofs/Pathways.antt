@@ -1,9 +1,10 @@
 -- The two parts of a path question: their variables, and assignments that paths give them. Assumes nothing.
-use Rattle.std.proofs.Common.{◌≡◌, ℕ, zero, suc, ◌+◌, ◌-◌, ◌*◌, ◌/◌, ◌<◌, ◌≤◌, Bool, true, ◌⊎◌, List, [], length, get_or, sym, refl, ap, ◌∙◌, subst, inl, inr, ⊎_elim, one-mul, arith}
+use Rattle.std.proofs.Common.{◌≡◌, ℕ, zero, suc, ◌+◌, ◌-◌, ◌*◌, ◌/◌, ◌<◌, ◌≤◌, Bool, true, false, ◌&&◌, ◌||◌, ltb, leb, ◌⊎◌, List, [], length, get_or, sym, refl, ap, ◌∙◌, subst, inl, inr, ⊎_elim, one-mul, arith}
 use Rattle.std.specs.List.{AllByRecursion as All}
+use Rattle.std.proofs.lemmas.Nat.{mul-le}
 use Rattle.std.proofs.ByRecursion.{All-get_or}
 use Rattle.std.proofs.lemmas.List.{length-append, get_or_append_left, get_or-append_right}
-use Rattle.std.proofs.lemmas.Bool.{or_cases}
+use Rattle.std.proofs.lemmas.Bool.{and_parts, or_cases, ltb-true, lt-ltb}
 use Rattle.sheet.specs.Sheets.{Sheet, Legal, sheet_of}
 use Rattle.signal.specs.Truth.{holds}
 use Rattle.machine.specs.Bits.{bit}
@@ -13,7 +14,7 @@ use Rattle.machine.proofs.Values.{settled}
 use Rattle.formula.specs.Formulas.{width, value_at, nodes_at, Formula, Gates}
 use Rattle.formula.specs.Framing.{in_frame, in_question}
 use Rattle.question.specs.Clauses.{first_clauses, second_clauses, path_clauses}
-use Rattle.question.specs.Meaning.{of_frame_zero_or_gate, of_latch_in_frame_one, is_local, is_shared, In, Proper}
+use Rattle.question.specs.Meaning.{is_local, is_shared, In, Proper}
 use Rattle.question.specs.Questions.{variable_count, clause_count, first_count, clause_of, Clause, Mem}
 use Rattle.question.proofs.Formulae.{nodes_rooted, rooted_value}
 use Rattle.question.proofs.Frames.{Held, assigned, assigned_node, assigned_literal, assigned_frame, assigned_link, assigned_formulas, assigned_formula}
@@ -30,6 +31,10 @@ use Rattle.interpolant.specs.Parting.{width_in, cut_of}
 -- a legal list lays out few nodes
 pub legal_wide : (l : List ℕ) → Legal l → width_in l ≡ width (sheet_of l)
 legal_wide l h = omega (arith, h.few_inputs, h.few_latches, h.few_gates)
+
+and_true : (b : Bool) → (b && true) ≡ b
+and_true true = refl
+and_true false = refl
 
 -- ---- the clauses of the two parts
 module _ (l q f : List ℕ) (n r k : ℕ) (legal : Legal l) (gates : Gates (sheet_of l) f n) (formula : Formula (sheet_of l) n r) (lays : IsPath q (sheet_of l) f n r k) where
@@ -80,13 +85,20 @@ module _ (l q f : List ℕ) (n r k : ℕ) (legal : Legal l) (gates : Gates (shee
   wide : width_in l ≡ w
   wide = legal_wide l legal
 
-  local_is : (j : ℕ) → u.local j ≡ is_local s k j
-  local_is j =
+  local_is : (j : ℕ) → j < (k + 2) * w + n → u.local j ≡ is_local s k j
+  local_is j h =
       let fresh : variable_count q - n ≡ (k + 2) * w = omega (arith, lays.variables) in
-      (λ i. of_frame_zero_or_gate (wide i) (fresh i) j)
+      let below : ltb j (variable_count q) ≡ true = lt-ltb j (variable_count q) (omega (arith, lays.variables)) in
+      (λ i. ltb j (wide i) || (leb (fresh i) j && below i)) ∙ ap (λ (b : Bool). ltb j w || b) (and_true (leb ((k + 2) * w) j))
 
   shared_is : (j : ℕ) → u.shared j ≡ is_shared s j
-  shared_is j = ap (λ (v : ℕ). of_latch_in_frame_one v s.inputs s.latches j) wide
+  shared_is j = ap (λ (v : ℕ). leb (v + 1 + s.inputs) j && ltb j (v + 1 + s.inputs + s.latches)) wide
+
+  shared_low : (j : ℕ) → is_shared s j ≡ true → j < (k + 2) * w + n
+  shared_low j h =
+      let p = and_parts (leb (w + 1 + s.inputs) j) (ltb j (w + 1 + s.inputs + s.latches)) h in
+      let low : j < w + 1 + s.inputs + s.latches = ltb-true j (w + 1 + s.inputs + s.latches) p.1 in
+      omega (arith, mul-le 2 w (k + 2) w (omega arith) (omega arith))
 
   pub parted : Parted q u
   parted =
@@ -96,16 +108,16 @@ module _ (l q f : List ℕ) (n r k : ℕ) (legal : Legal l) (gates : Gates (shee
             let in_ones : Mem x (get_or ones i []) = subst (Mem x) (first_clause i m) is in
             let either = All-get_or _ ones i [] (omega (arith, lays.first)) sides.first x in_ones in
             ⊎_elim
-            (λ e. inl (local_is (x / 2) ∙ e))
+            (λ e. inl (local_is (x / 2) ((proper i h).below x is) ∙ e))
             (λ e. inr (shared_is (x / 2) ∙ e))
             (or_cases (is_local s k (x / 2)) (is_shared s (x / 2)) either);
         second = λ i x h m is.
             let in_others : Mem x (get_or others (i - length ones) []) = subst (Mem x) (second_clause i h m) is in
-            local_is (x / 2)
+            local_is (x / 2) ((proper i h).below x is)
             ∙ All-get_or _ others (i - length ones) [] (omega (arith, lays.first, size)) sides.second x in_others;
         apart = λ v h.
             let is : is_shared s v ≡ true = sym (shared_is v) ∙ h in
-            local_is v ∙ sides.apart v is;
+            local_is v (shared_low v is) ∙ sides.apart v is;
       }
 
 pub path_parted : PathParted

@@ -1,5 +1,5 @@
 -- How the interpolant of a refutation is drawn into a formula list, with frames of w nodes and the cut u. Assumes nothing.
-use Rattle.std.specs.Prelude.{◌≡◌, ℕ, zero, suc, ◌+◌, ◌-◌, ◌*◌, ◌^◌, ◌<◌, ◌≤◌, min, cond, List, [], ◌∷◌, ◌++◌, length, replicate, Some, None, Ok, Err, Option, Result, MatchOption, nat_le, nat_lt, slice_index, slice_set}
+use Rattle.std.specs.Prelude.{◌/◌, ◌≡◌, ℕ, zero, suc, ◌+◌, ◌-◌, ◌*◌, ◌^◌, ◌<◌, ◌≤◌, min, cond, List, [], ◌∷◌, ◌++◌, length, replicate, Some, None, Ok, Err, Option, Result, MatchOption, nat_le, nat_lt, slice_index, slice_set}
 use Rattle.lists.specs.Counted.{counted, uncounted}
 use Rattle.sheet.specs.declared.literal.Literal.{Literal}
 use Rattle.formula.specs.Built.{literal}
@@ -16,15 +16,11 @@ use Rattle.interpolant.specs.declared.draw.Short.TheVariants.{LineValues, Formul
 use Rattle.interpolant.specs.declared.draw.Drawn.{Drawn}
 
 -- ---- the lines, one by one: f is a formula list with n gates, and the lines before have the literals vs
--- the OR of x and of a latch's literal, if there is one
-abbrev pub or_latch : ℕ → Option Literal → ℕ → ℕ → List ℕ → Outcome
-or_latch w None x n f = grown x n f
-or_latch w (Some y) x n f = disjoin w n f x y.0
-
 -- the OR of x and of the shared literals of a clause, each as the latch's literal that it is of in frame 1
 abbrev pub or_shared : ℕ → Cut → List ℕ → ℕ → ℕ → List ℕ → Outcome
 or_shared w u [] x n f = grown x n f
-or_shared w u (y ∷ ys) x n f = onward (or_latch w (latch_in w u y) x n f) (λ x n f. or_shared w u ys x n f)
+or_shared w u (y ∷ ys) x n f =
+    cond (u.shared (y / 2)) (onward (disjoin w n f x (y - 2 * w)) (λ x n f. or_shared w u ys x n f)) (or_shared w u ys x n f)
 
 -- a step: the OR of its lines' literals if the pivot is local, else the AND
 abbrev pub draw_step : ℕ → Cut → List ℕ → Step → ℕ → List ℕ → Outcome

@@ -77,5 +77,9 @@ OfPath l q t f n So =
 abbrev pub InterpolatesPath : List ℕ → List ℕ → List ℕ → List ℕ → ℕ → List ℕ → Drawn → Type 0
 InterpolatesPath l q t f n f' d = OfPath l q t f n (λ asked r k. SeparatesPath (sheet_of l) asked n r k f' d.gates d.literal.0)
 
+-- the question's formula gates may lie in any list
 abbrev pub LiesBetween : List ℕ → List ℕ → List ℕ → List ℕ → ℕ → List ℕ → Drawn → Type 0
-LiesBetween l q t f n f' d = OfPath l q t f n (λ asked r k. Between (sheet_of l) asked n r k f' d.gates d.literal.0)
+LiesBetween l q t f n f' d =
+    (asked : List ℕ) (r k : ℕ) → Legal l → Gates (sheet_of l) f n → Gates (sheet_of l) asked n → Formula (sheet_of l) n r
+    → IsPath q (sheet_of l) asked n r k → 1 ≤ step_count t → (derived : ℕ → List ℕ) → Derives q t derived
+    → Between (sheet_of l) asked n r k f' d.gates d.literal.0

@@ -4,13 +4,13 @@ ghost use Rattle.std.specs.Prelude.{◌≡◌};
 ghost use Rattle.lists.specs.Counted.{counted};
 ghost use Rattle.interpolant.specs.Parting.{parts_of, cut_by, latch_in};
 
-use formula::frame::out_of_frame_one;
 use formula::question_literal::QuestionLiteral;
 use lists::counted;
 use question::read::{first_count, number_at, variable_count};
 use sheet::literal::Literal;
 
-// How many clauses the first part has, how many nodes, inputs and latches a frame, and the first variable behind the frames.
+// How many clauses the first part has, how many nodes, inputs and latches a frame, the first variable behind the frames, and how
+// many variables there are.
 #[derive(Clone, Copy)]
 pub(crate) struct Parts {
     pub first: u32,
@@ -18,6 +18,7 @@ pub(crate) struct Parts {
     pub inputs: u32,
     pub latches: u32,
     pub fresh: u32,
+    pub variables: u32,
 }
 
 impl Parts {
@@ -28,6 +29,7 @@ impl Parts {
         let sheet = counted(sheet);
         let inputs = number_at(sheet, 0);
         let latches = number_at(sheet, 1);
+        let variables = variable_count(question);
         Parts {
             first: first_count(question),
             width: inputs
@@ -36,7 +38,8 @@ impl Parts {
                 .saturating_add(1),
             inputs,
             latches,
-            fresh: variable_count(question).saturating_sub(gates),
+            fresh: variables.saturating_sub(gates),
+            variables,
         }
     }
 
@@ -52,15 +55,15 @@ impl Parts {
     pub(crate) fn is_local(self, variable: u32) -> bool
         ensures { result ≡ (cut_by self).local variable }
     {
-        variable < self.width || self.fresh <= variable
+        variable < self.width || self.fresh <= variable && variable < self.variables
     }
 
     // The latch's literal that a shared literal is of in frame 1. None for a literal that is not shared.
     pub(crate) fn latch_in(self, x: QuestionLiteral) -> Option<Literal>
-        ensures { result ≡ latch_in self.width (cut_by self) x.0 }
+        ensures { result ≡ latch_in self x.0 }
     {
         if self.shares(x.variable()) {
-            out_of_frame_one(x, self.width)
+            Some(Literal::from_number(x.number() - 2 * self.width))
         } else {
             None
         }

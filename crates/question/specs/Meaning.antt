@@ -93,14 +93,6 @@ pub record Proper (v : ℕ) (c : List ℕ) : Type 0 where
   pub ascends : Clause c
   pub below : (x : ℕ) → Mem x c → x / 2 < v
 
--- of frame 0, with w nodes, or of a formula gate, the first of which is g
-abbrev pub of_frame_zero_or_gate : ℕ → ℕ → ℕ → Bool
-of_frame_zero_or_gate w g j = nat_lt j w || nat_le g j
-
--- of one of m latches behind i inputs, in frame 1
-abbrev pub of_latch_in_frame_one : ℕ → ℕ → ℕ → ℕ → Bool
-of_latch_in_frame_one w i m j = nat_le (w + 1 + i) j && nat_lt j (w + 1 + i + m)
-
 -- in the path question at bound k, variables of frame 0 and of formula gates are local to the first part
 abbrev pub is_local : Sheet → ℕ → ℕ → Bool
 is_local s k j = nat_lt j (width s) || nat_le ((k + 2) * width s) j

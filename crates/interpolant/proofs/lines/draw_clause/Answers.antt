@@ -1,5 +1,5 @@
 use Rattle.std.proofs.Common.{Some, None, sym, ap, ◌∙◌}
-use Rattle.interpolant.specs.Parting.{cut_by, latch_in}
+use Rattle.interpolant.specs.Parting.{latch_in}
 use Rattle.interpolant.proofs.Going.{stays_trans, or_keeps, or_end, or_skip, or_more, or_short}
 use Rattle.interpolant.proofs.lines.draw_clause.Goals as goal
 use Rattle.interpolant.proofs.lines.draw_clause.Goals.{in-Some+in_ok-literal, in_default}
@@ -12,7 +12,7 @@ returns-in_err-literal c =
     let x = c.loop-x.literal in
     let y = c.in-Some.latch in
     let told = c.in_err-literal.ensures.disjoins in
-    let latch = c.in-Some.ensures ∙ ap (latch_in u.width (cut_by u)) c.from_number.ensures.has_the_number in
+    let latch = c.in-Some.ensures ∙ ap (latch_in u) c.from_number.ensures.has_the_number in
     let is = or_short u c.args.clause.now c.loop-x.x-index c.loop-x-test.true g f c.loop-x.invariant.0 x y latch c.or.new.self c.or.new.list told in
     rw c.from_residual.ensures
     (record {
@@ -28,7 +28,7 @@ loop-x-preserved c =
     let x = c.loop-x.literal in
     let ys = c.args.clause.now in
     let i = c.loop-x.x-index in
-    let number = ap (latch_in u.width (cut_by u)) c.from_number.ensures.has_the_number in
+    let number = ap (latch_in u) c.from_number.ensures.has_the_number in
     elim c.match-latch_in.branch [
       | in-Some+in_ok-literal w ↦
           let y = w.in-Some.latch in
