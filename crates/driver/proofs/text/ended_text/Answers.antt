@@ -4,8 +4,8 @@ use Rattle.driver.proofs.Showing.{shows_run}
 use Rattle.driver.proofs.Telling.{tells_report}
 use Rattle.driver.proofs.text.ended_text.Goals as goal
 
-pub returns-in-Ok : goal.returns-in-Ok
-returns-in-Ok c =
+pub returns : goal.returns
+returns c =
     let said : string_bytes c.write_run.new.text ≡ ended_text c.args.report c.args.sheet.now c.args.run.now = search rules in
     record {
       says_exactly_this = said;
