@@ -1,8 +1,8 @@
 -- Cut lists: the used part of a question, and the front of a formula list. Assumes nothing.
-use Rattle.std.proofs.Common.{◌≡◌, ℕ, ◌+◌, ◌-◌, ◌*◌, ◌^◌, ◌<◌, ◌≤◌, Bool, true, false, cond, ◌&&◌, leb, List, ◌++◌, length, get_or, take, replicate, IfSome, Some, None, Option, sym, refl, ap, ◌∙◌, arith, length-take}
+use Rattle.std.proofs.Common.{◌≡◌, ℕ, ◌*◌, ◌^◌, ◌<◌, ◌≤◌, Bool, true, false, ◌&&◌, leb, List, length, take, IfSome, Option, sym, refl, ap, ◌∙◌, arith, length-take}
 use Rattle.std.proofs.lemmas.List.{take_all, take-take, get_or-take}
 use Rattle.std.proofs.lemmas.Bool.{cond_both, and_parts, leb-true}
-use Rattle.lists.specs.Counted.{counted, uncounted}
+use Rattle.lists.specs.Counted.{counted}
 use Rattle.formula.proofs.Valued.{SamePairs}
 use Rattle.question.specs.Layout.{all_below, posed, posed_if}
 use Rattle.question.specs.Questions.{variable_count}

@@ -1,5 +1,5 @@
 -- A turn after which the check goes on is one of those that it had left. Assumes nothing.
-use Rattle.std.proofs.Common.{◌≡◌, ℕ, ◌+◌, ◌-◌, ◌^◌, ◌<◌, ◌≤◌, min, Bool, true, false, ◌&&◌, eqb, leb, List, IfNone, Some, None, Ok, Err, Option, Result, sym, refl, ap, ◌∙◌, subst, arith}
+use Rattle.std.proofs.Common.{◌≡◌, ℕ, ◌<◌, ◌≤◌, ◌&&◌, eqb, leb, List, IfNone, Some, None, Ok, Err, Option, Result, sym, refl, ap, subst, arith}
 use Rattle.std.proofs.lemmas.Bool.{cond_both, leb-false}
 use Rattle.lists.specs.Counted.{counted}
 use Rattle.sheet.specs.declared.fault.Fault.{Fault}
@@ -19,13 +19,12 @@ use Rattle.checker.specs.declared.Region.{Region}
 use Rattle.checker.specs.declared.Asked.{Asked}
 use Rattle.checker.specs.declared.Weighed.{Weighed}
 use Rattle.checker.specs.declared.Moved.{Moved}
-use Rattle.checker.specs.declared.Moved.TheVariants.{Asked as goes_on, Ended as is-over}
 use Rattle.checker.specs.declared.Refused.{Refused}
 use Rattle.checker.specs.Calls.{fetched, showing, shown, taken}
-use Rattle.checker.specs.Lists.{Lists, lists, restored, used_part, said_part}
+use Rattle.checker.specs.Lists.{Lists, used_part, said_part}
 use Rattle.checker.specs.Points.{sheet_in}
 use Rattle.checker.specs.Promises.{answers_left, MovedFewer, ShownFewer}
-use Rattle.checker.specs.Turns.{Turned, asked_if, path_asked, inclusion_asked, with_gates, drawn_if, drawn, grown_if, grown_by, deepened, next_bound, counting, unless_spent, turn_on, turned, settled, moved_by}
+use Rattle.checker.specs.Turns.{Turned, asked_if, path_asked, inclusion_asked, with_gates, drawn_if, grown_if, next_bound, counting, unless_spent, turn_on, turned, settled, moved_by}
 
 -- a check that goes on has the limits and the count of the check a
 abbrev Keeps : Asked → Turned → Type 0

@@ -1,5 +1,5 @@
 -- What is promised of every series of calls, from the procedure over sets of states. Assumes nothing.
-use Rattle.std.proofs.Common.{◌≡◌, ℕ, ◌+◌, ◌-◌, ◌^◌, ◌<◌, ◌≤◌, Bool, true, false, cond, ◌&&◌, ltb, leb, ◌⊎◌, List, [], ◌++◌, map, length, take, replicate, Some, None, Ok, Err, Option, Result, sym, refl, ap, ◌∙◌, subst, inl, inr, arith}
+use Rattle.std.proofs.Common.{◌≡◌, ℕ, ◌+◌, ◌-◌, ◌^◌, ◌<◌, ◌≤◌, true, ◌&&◌, ltb, leb, ◌⊎◌, List, ◌++◌, map, length, take, replicate, Some, None, Ok, Err, Option, Result, sym, refl, ap, ◌∙◌, subst, inl, inr, arith}
 use Rattle.std.specs.List.{range_with_len}
 use Rattle.std.proofs.lemmas.List.FromFn.{length-map-range_with_len}
 use Rattle.std.proofs.lemmas.List.{take-append-drop}
@@ -8,13 +8,13 @@ use Rattle.lists.specs.Counted.{counted, uncounted}
 use Rattle.signal.specs.Truth.{bits_of}
 use Rattle.sheet.specs.Faults.{fault}
 use Rattle.sheet.specs.Render.{well_formed}
-use Rattle.sheet.specs.Sheets.{Sheet, Legal, sheet_of}
+use Rattle.sheet.specs.Sheets.{Sheet, Legal}
 use Rattle.sheet.specs.declared.fault.Fault.{Fault}
 use Rattle.sheet.specs.declared.fault.Layer.TheVariants.{ReadOff}
 use Rattle.sheet.proofs.Legality.{legal_well_formed}
 use Rattle.machine.specs.Depth.{ReverseDepth}
 use Rattle.machine.specs.Runs.{Frame, BadRun}
-use Rattle.procedure.specs.Procedure.{Check, Question, asks, ended, Point, most, Guarantee}
+use Rattle.procedure.specs.Procedure.{most, Guarantee}
 use Rattle.procedure.specs.Happens.{starters}
 use Rattle.procedure.proofs.Starting.{start_region}
 use Rattle.procedure.proofs.Theorem.{guarantee, one_by_one_rises}
@@ -27,24 +27,20 @@ use Rattle.question.proofs.Variables.{legal_lawful}
 use Rattle.checker.specs.declared.End.{End}
 use Rattle.checker.specs.declared.End.TheVariants.{Safe, Run, Undecided, Spent, Short}
 use Rattle.checker.specs.declared.Asked.{Asked}
-use Rattle.checker.specs.declared.Weighed.{Weighed}
 use Rattle.checker.specs.declared.Ended.{Ended}
-use Rattle.checker.specs.declared.Moved.{Moved}
-use Rattle.checker.specs.declared.Refused.{Refused}
 use Rattle.checker.specs.declared.report.Report.{Report}
-use Rattle.checker.specs.declared.report.Verdict.{Verdict}
 use Rattle.checker.specs.declared.report.Verdict.TheVariants.{Safe as is-safe, Run as is-run, Undecided as is-undecided, Spent as is-spent, Short as is-short}
 use Rattle.checker.specs.Lists.{Lists}
-use Rattle.checker.specs.Guarantees.{reports, Says, Runs, EndedSafe, EndedRun, EndedUndecided, EndedSpent, EndedShort, Decided, ReadsOff, GoesOn, turns_of, Going}
+use Rattle.checker.specs.Guarantees.{reports, Says, Runs, EndedSafe, EndedRun, EndedUndecided, EndedSpent, Decided, ReadsOff, GoesOn, turns_of, Going}
 use Rattle.checker.specs.Opening.{Opened, start_asked, start_made, opened}
 use Rattle.checker.specs.Calls.{fetched, shown, weighed, taken}
 use Rattle.checker.specs.Points.{sheet_in}
-use Rattle.checker.specs.Reports.{run_size, run_numbers, run_written, first_bad, run_in, run_off, reported, reported_run, read_by, read_off}
+use Rattle.checker.specs.Reports.{run_size, first_bad, run_in, run_off, reported_run, read_off}
 use Rattle.checker.specs.Series.{Stage, at_asked, at_weighed, at_ended, Series, opens, fetches, show_refused, shows, weigh_refused, weighs, takes, sets_aside, read_off_refused, reads_off}
 use Rattle.checker.proofs.Found.{First, first_bad_lem, bad_path}
 use Rattle.checker.proofs.Handing.{run_is_written}
 use Rattle.checker.proofs.Holding.{Holds, holds, is_question}
-use Rattle.checker.proofs.Moving.{point_of, comes_to}
+use Rattle.checker.proofs.Moving.{comes_to}
 use Rattle.checker.proofs.Opening.{OfOpened, opened_stands}
 use Rattle.checker.proofs.Promising.{by_open, by_show, by_weigh, by_take}
 use Rattle.checker.proofs.Standing.{Comes, Stands, Ran, Ends}

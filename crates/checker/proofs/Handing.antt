@@ -1,17 +1,15 @@
 -- What a run list hands over: the frames of the assignment. Assumes nothing.
-use Rattle.std.proofs.Common.{◌≡◌, ℕ, zero, suc, ◌+◌, ◌*◌, ◌/◌, ◌<◌, ◌≤◌, Bool, true, false, not, eqb, ◌⊎◌, List, [], ◌∷◌, ◌++◌, map, length, get_or, sym, refl, ap, ◌∙◌, subst, inl, ⊎_elim, arith}
+use Rattle.std.proofs.Common.{◌≡◌, ℕ, zero, suc, ◌+◌, ◌*◌, not, eqb, ◌⊎◌, List, [], ◌∷◌, ◌++◌, map, length, get_or, sym, refl, ap, ◌∙◌, inl, ⊎_elim, arith}
 use Rattle.std.specs.List.{range_with_len, AllByRecursion as All}
 use Rattle.std.proofs.lemmas.List.{append-nil}
-use Rattle.std.proofs.lemmas.Bool.{cond_both, cases_eq, both_ways}
 use Rattle.lists.specs.Stretch.{stretch}
-use Rattle.signal.specs.Truth.{lit, bits_of}
-use Rattle.sheet.specs.Sheets.{Sheet, sheet_of, Legal}
-use Rattle.machine.specs.Runs.{Frame, BadIn}
+use Rattle.signal.specs.Truth.{bits_of}
+use Rattle.sheet.specs.Sheets.{Sheet}
+use Rattle.machine.specs.Runs.{Frame}
 use Rattle.formula.specs.Formulas.{width}
-use Rattle.formula.specs.Framing.{in_frame}
-use Rattle.question.specs.Meaning.{frame_at, FrameTells}
+use Rattle.question.specs.Meaning.{frame_at}
 use Rattle.question.proofs.Counts.{stretch_length}
-use Rattle.checker.specs.Reports.{bit_number, frame_written, run_written, first_bad, numbers_from, frame_numbers, run_numbers, run_size}
+use Rattle.checker.specs.Reports.{bit_number, frame_written, run_written, numbers_from, frame_numbers, run_numbers, run_size}
 use Rattle.checker.proofs.Tracing.{length_frame}
 
 -- ---- the numbers of a run are its bits

@@ -1,5 +1,5 @@
 -- What holds at each point of every series of calls. Assumes nothing.
-use Rattle.std.proofs.Common.{◌≡◌, ℕ, ◌+◌, ◌-◌, ◌*◌, ◌<◌, ◌≤◌, Bool, true, List, [], get_or, take, is_ok, Some, None, Ok, Err, Option, Result, sym, refl, ap, ◌∙◌, subst, arith, length-take, MatchOption}
+use Rattle.std.proofs.Common.{◌≡◌, ℕ, ◌+◌, ◌-◌, ◌*◌, ◌<◌, ◌≤◌, List, [], get_or, take, is_ok, Some, None, Ok, Err, Option, Result, sym, refl, ap, subst, arith, length-take}
 use Rattle.std.proofs.lemmas.List.{get_or-take}
 use Rattle.lists.specs.Counted.{counted, on_counted}
 use Rattle.sheet.specs.declared.fault.Fault.{Fault}
@@ -13,17 +13,15 @@ use Rattle.answer.proofs.Verdicts.{accepted_derives, accepted_refutes, accepted_
 use Rattle.procedure.specs.Procedure.{Point}
 use Rattle.checker.specs.declared.Kind.{Kind}
 use Rattle.checker.specs.declared.Kind.TheVariants.{Start, Path, Inclusion}
-use Rattle.checker.specs.declared.Answer.{Answer}
 use Rattle.checker.specs.declared.Answer.TheVariants.{Assignment, Refutation}
 use Rattle.checker.specs.declared.End.{End}
 use Rattle.checker.specs.declared.Asked.{Asked}
 use Rattle.checker.specs.declared.Weighed.{Weighed}
-use Rattle.checker.specs.declared.Ended.{Ended}
 use Rattle.checker.specs.declared.Moved.{Moved}
 use Rattle.checker.specs.declared.Refused.{Refused}
-use Rattle.checker.specs.Lists.{Lists, lists, said_part}
-use Rattle.checker.specs.Turns.{Turned, turned, settled, moved_by}
-use Rattle.checker.specs.Calls.{fetched, showing, shown, weighing, weighed, taken}
+use Rattle.checker.specs.Lists.{Lists, said_part}
+use Rattle.checker.specs.Turns.{turned, settled}
+use Rattle.checker.specs.Calls.{showing, shown, weighing, weighed, taken}
 use Rattle.checker.specs.Series.{Stage, at_asked, at_weighed, at_ended, reached, Series, opens, fetches, show_refused, shows, weigh_refused, weighs, takes, sets_aside, read_off_refused, reads_off}
 use Rattle.checker.proofs.Cutting.{few_counted, counted_few}
 use Rattle.checker.proofs.Moving.{point_of, shown_holds, taken_holds}
@@ -31,7 +29,7 @@ use Rattle.checker.proofs.Opening.{OfOpened, opened_stands}
 use Rattle.checker.proofs.Posed.{OfTurn}
 use Rattle.checker.proofs.Weaker.{weaker_stands, weaker_ends}
 use Rattle.checker.specs.Points.{sheet_in}
-use Rattle.checker.proofs.Standing.{Comes, Came, standing, Poses, Asks, Stands, Ends}
+use Rattle.checker.proofs.Standing.{Comes, Came, standing, Asks, Stands, Ends}
 
 -- t refutes the question q
 pub record Refuted (q t : List ℕ) : Type 0 where

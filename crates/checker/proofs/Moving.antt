@@ -1,9 +1,9 @@
 -- Each answer that is accepted takes the check to a point of the procedure. Assumes nothing.
-use Rattle.std.proofs.Common.{◌≡◌, ℕ, ◌+◌, ◌-◌, ◌*◌, ◌/◌, ◌^◌, ◌<◌, ◌≤◌, min, Bool, true, false, ◌&&◌, ◌||◌, eqb, leb, List, length, Some, Ok, Err, Result, sym, refl, ap, ◌∙◌, subst, inl, inr, ⊎_elim, arith, MatchOption}
-use Rattle.std.proofs.lemmas.Bool.{cond-true, cond-false, cond_both, cases_Bool, both_ways, cases_eq, leb-true, leb-false, eqb-true, eqb-false, eq-eqb, ne_eqb}
+use Rattle.std.proofs.Common.{◌≡◌, ℕ, ◌+◌, ◌-◌, ◌*◌, ◌/◌, ◌^◌, ◌<◌, ◌≤◌, min, Bool, true, false, ◌||◌, eqb, leb, List, length, Some, Ok, Err, Result, sym, refl, ◌∙◌, subst, ⊎_elim, arith}
+use Rattle.std.proofs.lemmas.Bool.{cond-true, cond-false, cond_both, cases_Bool, leb-true, leb-false, eqb-true, eqb-false, eq-eqb, ne_eqb}
 use Rattle.lists.specs.Counted.{counted}
 use Rattle.sheet.specs.declared.literal.Literal.{Literal}
-use Rattle.sheet.specs.Sheets.{Sheet, Legal}
+use Rattle.sheet.specs.Sheets.{Sheet}
 use Rattle.signal.specs.Truth.{bits_of}
 use Rattle.machine.specs.Bits.{bit}
 use Rattle.machine.specs.Runs.{State, Starts, BadState, BadIn, Reaches}
@@ -11,13 +11,13 @@ use Rattle.procedure.specs.Procedure.{Region as Set, Check, Question, start, pat
 use Rattle.procedure.specs.Happens.{starters}
 use Rattle.procedure.proofs.Starting.{start_region}
 use Rattle.procedure.proofs.Sound.{Standing, holds}
-use Rattle.formula.specs.Conjunction.{Outcome, grown, short, disjoin, Joins}
-use Rattle.formula.specs.Formulas.{width, value_at, Formula, Gates}
+use Rattle.formula.specs.Conjunction.{Outcome, grown, short, disjoin}
+use Rattle.formula.specs.Formulas.{width, value_at, Gates}
 use Rattle.formula.specs.Starting.{Starts as StartsWith}
 use Rattle.formula.proofs.Valued.{formula_more, gates_same, value_same, Fine, disjoin_fine}
 use Rattle.question.specs.Clauses.{start_clauses, first_clauses, path_clauses, inclusion_clauses}
 use Rattle.question.specs.Meaning.{In, frame_at, FrameTells, PathTells}
-use Rattle.question.specs.Questions.{variable_count, Satisfies, Satisfiable}
+use Rattle.question.specs.Questions.{variable_count, Satisfiable}
 use Rattle.question.proofs.Paths.{path_tells, path_asks}
 use Rattle.question.proofs.States.{start_tells, start_asks, inclusion_tells, inclusion_asks}
 use Rattle.question.proofs.Variables.{legal_lawful}
@@ -32,22 +32,19 @@ use Rattle.interpolant.proofs.Meanings.{draws_formula, lies_between}
 use Rattle.interpolant.proofs.Pathways.{legal_wide}
 use Rattle.checker.specs.declared.Kind.{Kind}
 use Rattle.checker.specs.declared.Kind.TheVariants.{Start, Path, Inclusion}
-use Rattle.checker.specs.declared.Answer.{Answer}
 use Rattle.checker.specs.declared.Answer.TheVariants.{Assignment, Refutation}
-use Rattle.checker.specs.declared.End.{End}
-use Rattle.checker.specs.declared.End.TheVariants.{Run, Undecided, Spent}
-use Rattle.checker.specs.declared.Region.{Region}
+use Rattle.checker.specs.declared.End.TheVariants.{Run, Undecided}
 use Rattle.checker.specs.declared.Asked.{Asked}
 use Rattle.checker.specs.Lists.{Lists, lists, restored}
-use Rattle.checker.specs.Turns.{Turned, counting, unless_spent, turn_on, turned, path_asked, drawn, drawn_if, grown_by, grown_if, deepened, next_bound, with_gates, larger}
+use Rattle.checker.specs.Turns.{Turned, counting, unless_spent, turn_on, turned, drawn_if, grown_if, deepened, next_bound, larger}
 use Rattle.checker.specs.Reports.{first_bad}
 use Rattle.checker.proofs.Cutting.{used_variables, front_pairs}
 use Rattle.checker.proofs.Found.{First, first_bad_lem, reaches}
 use Rattle.checker.proofs.Images.{image, image_interpolates}
 use Rattle.checker.proofs.Restoring.{starts_extended, starts_same, starts_set, restored_pairs}
 use Rattle.checker.proofs.Posed.{OfTurn, Ready, Before, path_stands, inclusion_stands}
-use Rattle.checker.specs.Points.{sheet_in, IsSet}
-use Rattle.checker.proofs.Standing.{Comes, Came, check_of, Poses, standing, Sound, Drawn, Asks, Stands, Ran, Ends}
+use Rattle.checker.specs.Points.{sheet_in}
+use Rattle.checker.proofs.Standing.{Comes, Came, check_of, Poses, standing, Drawn, Asks, Stands, Ran}
 
 or_same : {p q r t : Bool} → p ≡ q → r ≡ t → (p || r) ≡ (q || t)
 or_same e h = λ i. e i || h i

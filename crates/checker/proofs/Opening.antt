@@ -1,16 +1,14 @@
 -- A check that was opened stands at the start question. Assumes nothing.
-use Rattle.std.proofs.Common.{◌≡◌, ℕ, ◌+◌, ◌*◌, ◌^◌, ◌<◌, ◌≤◌, Bool, true, false, cond, ◌&&◌, ltb, leb, List, ◌++◌, length, take, replicate, IfSome, Some, None, Ok, Err, Option, Result, sym, refl, ap, ◌∙◌, subst, arith}
+use Rattle.std.proofs.Common.{◌≡◌, ℕ, ◌^◌, ◌<◌, ◌≤◌, true, ◌&&◌, ltb, leb, List, ◌++◌, length, replicate, IfSome, Some, None, Ok, Err, Option, sym, refl, ap, subst, arith}
 use Rattle.std.proofs.lemmas.List.{get_or_append_left}
 use Rattle.std.proofs.lemmas.Bool.{cond_both, and_parts, leb-true, ltb-true}
 use Rattle.lists.specs.Counted.{counted, uncounted}
 use Rattle.sheet.specs.Render.{well_formed}
-use Rattle.sheet.specs.Sheets.{Sheet, Legal, sheet_of}
-use Rattle.sheet.proofs.Legality.{well_formed_legal}
+use Rattle.sheet.specs.Sheets.{Sheet}
 use Rattle.procedure.specs.Procedure.{opens}
 use Rattle.procedure.specs.Happens.{starters}
-use Rattle.formula.specs.Built.{started, start_over, write_start}
+use Rattle.formula.specs.Built.{started, write_start}
 use Rattle.formula.specs.Conjunction.{Outcome, grown, short}
-use Rattle.formula.specs.Formulas.{width, Formula, Gates}
 use Rattle.formula.specs.Starting.{start_in, Starts as StartsWith}
 use Rattle.formula.specs.declared.start.Started.{Started}
 use Rattle.formula.proofs.Starts.{starts_from}
@@ -19,10 +17,8 @@ use Rattle.question.specs.Clauses.{start_clauses}
 use Rattle.question.specs.Layout.{start_list, given, posed_if}
 use Rattle.question.proofs.Posing.{given_tells}
 use Rattle.question.proofs.Promises.{gates_whole, start_lays, start_is_question}
-use Rattle.checker.specs.declared.Kind.TheVariants.{Start}
-use Rattle.checker.specs.declared.Asked.{Asked}
 use Rattle.checker.specs.Lists.{lists}
-use Rattle.checker.specs.Opening.{Opened, start_region, at_start, start_asked, start_made, opened}
+use Rattle.checker.specs.Opening.{Opened, start_asked, start_made, opened}
 use Rattle.checker.proofs.Cutting.{posed_sized, front_pairs}
 use Rattle.checker.proofs.Restoring.{starts_same, starts_set}
 use Rattle.checker.proofs.Posed.{posed_given, poses, some_numbers}

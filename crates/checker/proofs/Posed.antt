@@ -1,14 +1,13 @@
 -- A question is asked next, or the lists are too short for it. Assumes nothing.
-use Rattle.std.proofs.Common.{◌≡◌, ℕ, ◌+◌, ◌*◌, ◌^◌, ◌<◌, ◌≤◌, Bool, true, false, ◌&&◌, leb, List, length, take, IfSome, Some, None, Option, sym, refl, ap, ◌∙◌, subst, arith, MatchOption}
+use Rattle.std.proofs.Common.{◌≡◌, ℕ, ◌+◌, ◌*◌, ◌^◌, ◌<◌, ◌≤◌, Bool, true, false, ◌&&◌, leb, List, length, take, IfSome, Some, None, Option, sym, refl, ap, subst, arith, MatchOption}
 use Rattle.std.proofs.lemmas.Bool.{and_parts}
 use Rattle.lists.specs.Counted.{counted}
-use Rattle.sheet.specs.declared.literal.Literal.{Literal}
 use Rattle.sheet.specs.Sheets.{Legal}
 use Rattle.procedure.specs.Procedure.{Region as Set, Check, Question, path, inclusion, asks}
-use Rattle.formula.specs.Formulas.{width, Formula, Gates}
+use Rattle.formula.specs.Formulas.{Formula, Gates}
 use Rattle.formula.specs.Starting.{Starts as StartsWith}
 use Rattle.formula.proofs.Valued.{gates_same}
-use Rattle.question.specs.Clauses.{first_clauses, path_clauses, inclusion_clauses}
+use Rattle.question.specs.Clauses.{path_clauses, inclusion_clauses}
 use Rattle.question.specs.Laid.{Lays}
 use Rattle.question.specs.Layout.{encode, path_list, inclusion_list, given, posed_if}
 use Rattle.question.specs.Questions.{IsQuestion}
@@ -17,14 +16,13 @@ use Rattle.question.proofs.Promises.{path_lays, path_is_question, inclusion_lays
 use Rattle.interpolant.specs.declared.draw.Drawn.{Drawn as Drawing}
 use Rattle.checker.specs.declared.Kind.{Kind}
 use Rattle.checker.specs.declared.Kind.TheVariants.{Path, Inclusion}
-use Rattle.checker.specs.declared.End.{End}
 use Rattle.checker.specs.declared.Region.{Region}
 use Rattle.checker.specs.declared.Asked.{Asked}
 use Rattle.checker.specs.Lists.{Lists, lists, used_part}
 use Rattle.checker.specs.Turns.{Turned, asking, asked_if, path_asked, inclusion_asked, with_gates}
 use Rattle.checker.proofs.Cutting.{used_is, posed_sized, front_pairs}
 use Rattle.checker.specs.Points.{sheet_in, IsSet}
-use Rattle.checker.proofs.Standing.{Comes, Known, Poses, Sound, Drawn, Stands, Ends}
+use Rattle.checker.proofs.Standing.{Comes, Known, Poses, Sound, Stands, Ends}
 
 -- what comes of a turn: a question stands, or the check has ended
 abbrev pub OfTurn : (l : List ℕ) (K Q : ℕ) → Known l → ℕ → List ℕ → Turned → Type 0

@@ -1,5 +1,5 @@
 -- What each call promises where a series led to it. Assumes nothing.
-use Rattle.std.proofs.Common.{◌≡◌, ℕ, ◌+◌, ◌^◌, ◌≤◌, Bool, true, ◌⊎◌, List, [], length, is_ok, Some, None, Ok, Err, Option, Result, sym, refl, ap, ◌∙◌, subst, inl, inr, arith, length-take}
+use Rattle.std.proofs.Common.{◌≡◌, ℕ, ◌+◌, ◌⊎◌, List, [], is_ok, Some, None, Ok, Err, Option, Result, sym, refl, ap, ◌∙◌, subst, inl, inr, arith, length-take}
 use Rattle.lists.specs.Counted.{counted, on_counted}
 use Rattle.sheet.specs.Trip.{Iff}
 use Rattle.sheet.specs.declared.fault.Fault.{Fault}
@@ -22,18 +22,18 @@ use Rattle.checker.specs.declared.Asked.{Asked}
 use Rattle.checker.specs.declared.Weighed.{Weighed}
 use Rattle.checker.specs.declared.Moved.{Moved}
 use Rattle.checker.specs.declared.Refused.{Refused}
-use Rattle.checker.specs.Lists.{Lists, lists, used_part, said_part}
+use Rattle.checker.specs.Lists.{Lists, lists, said_part}
 use Rattle.checker.specs.Opening.{opened}
 use Rattle.checker.specs.Turns.{turned, settled}
 use Rattle.checker.specs.Calls.{fetched, showing, shown, weighing, weighed, taken, set_aside}
 use Rattle.checker.specs.Points.{sheet_in, AsksFor, StandsFor, IsShort, AsPoint, AsAsked, AsQuestion, Answers}
-use Rattle.checker.specs.Promises.{Begins, ShowGoesOn, WeighGoesOn, TakeGoesOn, AsideGoesOn, ShownTo, WeighedTo, ShownAnswersAt, ShownAnswers, TakenAnswers, FetchedStands, CountsTurns, WeighedSame}
+use Rattle.checker.specs.Promises.{Begins, ShowGoesOn, WeighGoesOn, TakeGoesOn, AsideGoesOn, ShownAnswersAt, ShownAnswers, TakenAnswers, FetchedStands, CountsTurns, WeighedSame}
 use Rattle.checker.specs.Series.{Stage, at_asked, at_weighed, at_ended, reached, Series, opens, fetches, show_refused, shows, weigh_refused, weighs, takes, sets_aside}
 use Rattle.checker.proofs.Cutting.{few_counted, counted_few}
-use Rattle.checker.proofs.Holding.{Holds, holds, is_question}
+use Rattle.checker.proofs.Holding.{holds, is_question}
 use Rattle.checker.proofs.Moving.{front_gates, question_of, point_of, shown_holds, taken_holds}
 use Rattle.checker.proofs.Posed.{OfTurn}
-use Rattle.checker.proofs.Standing.{Comes, Came, standing, Poses, Asks, Stands, Ends, check_of}
+use Rattle.checker.proofs.Standing.{Comes, Came, standing, Asks, Stands, Ends, check_of}
 
 -- ---- every call goes on
 pub by_open : (l : List ℕ) (K Q : ℕ) (f q : List ℕ) (r : Result Asked Fault) (f' q' : List ℕ) → (r, f', q') ≡ opened l K Q f q → Begins l K Q r f' q'

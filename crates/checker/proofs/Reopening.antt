@@ -1,5 +1,5 @@
 -- A raised bound begins with the formula list that opening wrote. Assumes nothing.
-use Rattle.std.proofs.Common.{◌≡◌, ℕ, zero, suc, ◌+◌, ◌-◌, ◌*◌, ◌^◌, ◌<◌, ◌≤◌, Bool, true, false, ◌&&◌, eqb, ltb, leb, List, [], ◌++◌, length, get_or, take, drop, replicate, IfSome, IfNone, Some, None, Ok, Err, Option, Result, sym, refl, ap, ◌∙◌, subst, ⊎_elim, arith, length-take}
+use Rattle.std.proofs.Common.{◌≡◌, ℕ, zero, suc, ◌+◌, ◌-◌, ◌*◌, ◌^◌, ◌<◌, ◌≤◌, Bool, true, ◌&&◌, eqb, ltb, leb, List, [], ◌++◌, length, get_or, take, drop, replicate, IfSome, IfNone, Some, None, Ok, Err, Option, Result, sym, refl, ap, ◌∙◌, subst, ⊎_elim, arith, length-take}
 use lib.ListN.{length-replicate}
 use Rattle.std.proofs.lemmas.List.{get_or-take, get_or-drop, get_or-replicate, get_or_append_left, get_or-append_right, get_or_past, ext_get_or, drop_at, drop_all, append-nil, length-append, length-drop}
 use Rattle.std.proofs.lemmas.Bool.{cond_both, cases_lt, and_parts}
@@ -8,9 +8,8 @@ use Rattle.lists.proofs.Taken.{take_refronted}
 use Rattle.sheet.specs.Render.{well_formed}
 use Rattle.sheet.specs.Sheets.{Sheet, Start, set, unset}
 use Rattle.sheet.specs.declared.fault.Fault.{Fault}
-use Rattle.sheet.specs.declared.literal.Literal.{Literal}
-use Rattle.formula.specs.Built.{started, start_over, write_start}
-use Rattle.formula.specs.Conjunction.{Outcome, grown, short, conjoin, disjoin}
+use Rattle.formula.specs.Built.{started, write_start}
+use Rattle.formula.specs.Conjunction.{Outcome, grown, short, disjoin}
 use Rattle.formula.specs.Formulas.{width}
 use Rattle.formula.specs.Starting.{start_literal, joined, onward, join_starts, start_in}
 use Rattle.formula.specs.declared.start.Started.{Started}
@@ -34,18 +33,17 @@ use Rattle.checker.specs.declared.Region.{Region}
 use Rattle.checker.specs.declared.Asked.{Asked}
 use Rattle.checker.specs.declared.Weighed.{Weighed}
 use Rattle.checker.specs.declared.Moved.{Moved}
-use Rattle.checker.specs.declared.Moved.TheVariants.{Asked as goes_on, Ended as is-over}
 use Rattle.checker.specs.declared.Refused.{Refused}
 use Rattle.checker.specs.Lists.{Lists, lists, restored, used_part, said_part}
-use Rattle.checker.specs.Opening.{Opened, start_region, at_start, start_asked, start_made, opened}
-use Rattle.checker.specs.Turns.{Turned, asked_if, path_asked, inclusion_asked, with_gates, drawn_if, drawn, larger, grown_if, grown_by, deepened, next_bound, counting, unless_spent, turn_on, turned, settled, moved_by}
-use Rattle.checker.specs.Calls.{fetched, showing, shown, weighing, weighed, taken}
+use Rattle.checker.specs.Opening.{Opened, start_asked, start_made, opened}
+use Rattle.checker.specs.Turns.{Turned, asked_if, path_asked, inclusion_asked, with_gates, drawn_if, larger, grown_if, next_bound, counting, unless_spent, turn_on, turned, settled, moved_by}
+use Rattle.checker.specs.Calls.{fetched, showing, weighing, weighed}
 use Rattle.checker.specs.Guarantees.{GoesBack}
 use Rattle.checker.specs.Points.{sheet_in}
 use Rattle.checker.specs.Series.{Stage, at_asked, at_weighed, at_ended, reached, Series, opens, fetches, show_refused, shows, weigh_refused, weighs, takes, sets_aside, read_off_refused, reads_off}
 use Rattle.checker.proofs.Holding.{holds}
 use Rattle.checker.proofs.Posed.{posed_given}
-use Rattle.checker.proofs.Standing.{Comes, Sound, Stands}
+use Rattle.checker.proofs.Standing.{Comes, Stands}
 
 -- ---- over plain lists, of which the first N places count
 module _ (N : ℕ) where

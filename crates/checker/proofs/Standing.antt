@@ -1,16 +1,15 @@
 -- What holds while a question of a check stands, and where a check has ended: the check is at a point of the procedure over sets
 -- of states. Assumes nothing.
-use Rattle.std.proofs.Common.{◌≡◌, ℕ, ◌+◌, ◌*◌, ◌^◌, ◌<◌, ◌≤◌, Bool, true, false, ◌⊎◌, List, length}
+use Rattle.std.proofs.Common.{◌≡◌, ℕ, ◌+◌, ◌*◌, ◌^◌, ◌<◌, ◌≤◌, false, ◌⊎◌, List, length}
 use Rattle.std.specs.List.{AllByRecursion as All}
 use Rattle.lists.specs.Counted.{counted}
 use Rattle.sheet.specs.declared.literal.Literal.{Literal}
-use Rattle.sheet.specs.Sheets.{Sheet, Legal, sheet_of}
+use Rattle.sheet.specs.Sheets.{Sheet, Legal}
 use Rattle.signal.specs.Truth.{bits_of}
-use Rattle.machine.specs.Bits.{bit}
-use Rattle.machine.specs.Runs.{State, Frame, Starts, Follows, BadIn}
+use Rattle.machine.specs.Runs.{Starts, Follows, BadIn}
 use Rattle.procedure.specs.Procedure.{Region as Set, Check, Question, start, path, inclusion, Point, asks, ended, safe, run, undecided, spent, Answer, Series, limited}
 use Rattle.procedure.specs.Happens.{starters}
-use Rattle.formula.specs.Formulas.{width, value_at, Formula, Gates}
+use Rattle.formula.specs.Formulas.{width, Formula, Gates}
 use Rattle.formula.specs.Starting.{Starts as StartsWith}
 use Rattle.question.specs.Clauses.{start_clauses, first_clauses, path_clauses, inclusion_clauses}
 use Rattle.question.specs.Laid.{Lays}

@@ -1,5 +1,5 @@
 -- What is known of a point may be weakened. Assumes nothing.
-use Rattle.std.proofs.Common.{ℕ, List, Some, None, Option, MatchOption}
+use Rattle.std.proofs.Common.{ℕ, List}
 use Rattle.procedure.specs.Procedure.{Region as Set, Point}
 use Rattle.checker.specs.declared.Kind.{Kind}
 use Rattle.checker.specs.declared.Kind.TheVariants.{Start, Path, Inclusion}
@@ -7,9 +7,8 @@ use Rattle.checker.specs.declared.End.{End}
 use Rattle.checker.specs.declared.End.TheVariants.{Safe, Run, Undecided, Spent, Short}
 use Rattle.checker.specs.declared.Asked.{Asked}
 use Rattle.checker.specs.Lists.{Lists}
-use Rattle.checker.proofs.Posed.{OfTurn}
 use Rattle.checker.specs.Points.{sheet_in}
-use Rattle.checker.proofs.Standing.{Known, Drawn, Asks, Stands, Ran, Ends}
+use Rattle.checker.proofs.Standing.{Known, Asks, Stands, Ends}
 
 module _ (l : List ℕ) (C D : Known l) (weaken : (p : Point (sheet_in l)) → C p → D p) where
   weaker_asks : (kind : Kind) (a : Asked) (x : Lists) (n : ℕ) (R : Set (sheet_in l)) → Asks l C kind a x n R → Asks l D kind a x n R

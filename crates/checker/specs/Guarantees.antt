@@ -1,5 +1,5 @@
 -- What is promised of every series of calls on a check. Assumes nothing.
-use Rattle.std.specs.Prelude.{◌≡◌, ℕ, ◌+◌, ◌-◌, ◌<◌, ◌≤◌, ◌⊎◌, List, [], ◌++◌, length, take, replicate, Ok, Err, Result}
+use Rattle.std.specs.Prelude.{◌≡◌, ℕ, ◌+◌, ◌-◌, ◌<◌, ◌≤◌, ◌⊎◌, List, [], ◌++◌, length, take, replicate, Ok, Err}
 use Rattle.lists.specs.Counted.{counted, uncounted}
 use Rattle.sheet.specs.Faults.{fault}
 use Rattle.sheet.specs.declared.fault.Layer.TheVariants.{ReadOff}
@@ -12,9 +12,9 @@ use Rattle.checker.specs.declared.Lack.{Lack}
 use Rattle.checker.specs.declared.report.Report.{Report}
 use Rattle.checker.specs.declared.report.Verdict.{Verdict}
 use Rattle.checker.specs.declared.report.Verdict.TheVariants.{Safe, Run, Undecided, Spent, Short}
-use Rattle.checker.specs.Lists.{Lists, lists, restored, said_part}
+use Rattle.checker.specs.Lists.{Lists, restored, said_part}
 use Rattle.checker.specs.Opening.{opened}
-use Rattle.checker.specs.Calls.{fetched, shown, weighed, taken, set_aside}
+use Rattle.checker.specs.Calls.{shown, weighed, taken, set_aside}
 use Rattle.checker.specs.Points.{sheet_in}
 use Rattle.checker.specs.Promises.{Begins, ShownTo, WeighedTo}
 use Rattle.checker.specs.Reports.{run_size, run_written, read_off}

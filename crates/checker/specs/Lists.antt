@@ -1,5 +1,5 @@
 -- The lists that a check writes, and what it does to them as a whole. Assumes nothing.
-use Rattle.std.specs.Prelude.{ℕ, ◌+◌, ◌-◌, ◌*◌, min, List, ◌++◌, length, take, replicate, slice_index}
+use Rattle.std.specs.Prelude.{ℕ, ◌+◌, ◌-◌, ◌*◌, List, ◌++◌, length, take, replicate, slice_index}
 use Rattle.lists.specs.Counted.{counted, uncounted}
 use Rattle.interpolant.specs.Drawing.{cleared}
 

@@ -1,9 +1,9 @@
 -- How a check is opened, and when it is not. Assumes nothing.
-use Rattle.std.specs.Prelude.{ℕ, ◌+◌, ◌*◌, Bool, false, cond, ◌&&◌, List, Some, None, Ok, Err, Option, Result, nat_le, nat_lt}
+use Rattle.std.specs.Prelude.{ℕ, false, cond, ◌&&◌, List, Some, None, Ok, Err, Option, Result, nat_le, nat_lt}
 use Rattle.lists.specs.Counted.{counted}
 use Rattle.sheet.specs.Faults.{fault}
 use Rattle.sheet.specs.Render.{well_formed}
-use Rattle.sheet.specs.Sheets.{gate_count, sheet_of}
+use Rattle.sheet.specs.Sheets.{sheet_of}
 use Rattle.sheet.specs.declared.fault.Fault.{Fault}
 use Rattle.sheet.specs.declared.fault.Layer.TheVariants.{Open}
 use Rattle.formula.specs.Built.{write_start}

@@ -18,7 +18,6 @@ use Rattle.checker.specs.declared.End.{End}
 use Rattle.checker.specs.declared.End.TheVariants.{Safe, Run, Undecided, Spent, Short}
 use Rattle.checker.specs.declared.Asked.{Asked}
 use Rattle.checker.specs.Lists.{Lists}
-use Rattle.checker.specs.Calls.{fetched}
 use Rattle.checker.specs.Series.{Stage, at_asked, at_weighed, at_ended}
 
 -- the sheet that a list lays out

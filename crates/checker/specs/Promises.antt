@@ -4,13 +4,12 @@ use Rattle.lists.specs.Counted.{counted}
 use Rattle.sheet.specs.declared.fault.Fault.{Fault}
 use Rattle.checker.specs.declared.Asked.{Asked}
 use Rattle.checker.specs.declared.Weighed.{Weighed}
-use Rattle.checker.specs.declared.Ended.{Ended}
 use Rattle.checker.specs.declared.Moved.{Moved}
 use Rattle.checker.specs.declared.Moved.TheVariants.{Asked as goes_on, Ended as is-over}
 use Rattle.checker.specs.declared.Refused.{Refused}
 use Rattle.checker.specs.Lists.{Lists, lists, said_part}
 use Rattle.checker.specs.Points.{Answers, StandsFor}
-use Rattle.checker.specs.Series.{Stage, at_asked, at_weighed, at_ended, reached, Series}
+use Rattle.checker.specs.Series.{at_asked, at_weighed, reached, Series}
 
 -- ---- every call goes on: where a series led to it, a series leads to what it comes to
 -- `open`, whatever the line value list holds

@@ -1,5 +1,5 @@
 -- Every series of calls of one check. Assumes nothing.
-use Rattle.std.specs.Prelude.{◌≡◌, ℕ, ◌+◌, List, [], Ok, Err, Result}
+use Rattle.std.specs.Prelude.{◌≡◌, ℕ, ◌+◌, List, [], Ok, Err}
 use Rattle.lists.specs.Counted.{counted}
 use Rattle.sheet.specs.declared.fault.Fault.{Fault}
 use Rattle.checker.specs.declared.Asked.{Asked}

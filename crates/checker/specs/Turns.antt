@@ -1,5 +1,5 @@
 -- What an answer that was accepted leads to: the check at its next question or its end, and the lists. Assumes nothing.
-use Rattle.std.specs.Prelude.{ℕ, ◌+◌, ◌-◌, ◌^◌, min, Bool, true, false, cond, ◌&&◌, List, Some, None, Ok, Err, Option, Result, ◌==◌, nat_le}
+use Rattle.std.specs.Prelude.{ℕ, ◌+◌, ◌-◌, ◌^◌, min, true, cond, ◌&&◌, List, Some, None, Ok, Err, Option, Result, ◌==◌, nat_le}
 use Rattle.lists.specs.Counted.{counted}
 use Rattle.sheet.specs.declared.literal.Literal.{Literal}
 use Rattle.sheet.specs.Sheets.{sheet_of}
@@ -22,7 +22,6 @@ use Rattle.checker.specs.declared.Lack.TheVariants.{Formula, Question, LineValue
 use Rattle.checker.specs.declared.End.{End}
 use Rattle.checker.specs.declared.End.TheVariants.{Safe, Run, Undecided, Spent, Short as TooShort}
 use Rattle.checker.specs.declared.Asked.{Asked}
-use Rattle.checker.specs.declared.Ended.{Ended}
 use Rattle.checker.specs.declared.Moved.{Moved}
 use Rattle.checker.specs.declared.Moved.TheVariants.{Asked as goes_on, Ended as is-over}
 use Rattle.checker.specs.Lists.{Lists, lists, wiped, restored, used_part}

@@ -1,20 +1,19 @@
 -- One question asked, from what the calls ensure. Assumes nothing.
-use Rattle.std.proofs.Common.{◌≡◌, ℕ, ◌<◌, ◌≤◌, Bool, List, take, Ok, Err, Result, sym, refl, ap, ◌∙◌, subst}
+use Rattle.std.proofs.Common.{◌≡◌, ℕ, ◌<◌, Bool, List, take, Ok, Err, Result, sym, ap, ◌∙◌, subst}
 use Rattle.lists.specs.Counted.{counted}
 use Rattle.question.specs.Questions.{variable_count}
 use Rattle.producer.specs.Replying.{Replies, KeepsWord}
 use Rattle.producer.specs.declared.interface.Reply.{Reply}
-use Rattle.producer.specs.declared.interface.Reply.TheVariants.{Assignment, Refutation, TooLong}
+use Rattle.producer.specs.declared.interface.Reply.TheVariants.{Assignment, Refutation}
 use Rattle.checker.specs.declared.Asked.{Asked}
 use Rattle.checker.specs.declared.Weighed.{Weighed}
-use Rattle.checker.specs.declared.Ended.{Ended}
 use Rattle.checker.specs.declared.Moved.{Moved}
-use Rattle.checker.specs.declared.Moved.TheVariants.{Asked as goes_on, Ended as is-over}
+use Rattle.checker.specs.declared.Moved.TheVariants.{Asked as goes_on}
 use Rattle.checker.specs.declared.Refused.{Refused}
 use Rattle.checker.specs.Lists.{Lists}
 use Rattle.checker.specs.Calls.{fetched, shown, weighed, taken}
 use Rattle.checker.specs.Promises.{answers_left, MovedFewer, ShownFewer}
-use Rattle.driver.specs.Driving.{Marked, Turn, assignment_in, weighed_turn, unanswered, answered, Asking}
+use Rattle.driver.specs.Driving.{Marked, Turn, assignment_in, weighed_turn, answered, Asking}
 
 pub asked_by : {S : Type 0} (R : Replies S) (honest : Bool) (l : List ℕ) (a : Asked) (x : Lists) (b w : List ℕ) (s : S) (reply : Reply) (lent b' v : List ℕ) (s' : S)
     → lent ≡ fetched a x.question → KeepsWord honest lent b' v reply → R s lent b w reply b' v s'

@@ -1,36 +1,32 @@
 -- Where driving a check leads. Assumes nothing.
-use Rattle.std.proofs.Common.{◌≡◌, ℕ, ◌+◌, ◌*◌, ◌^◌, ◌<◌, ◌≤◌, min, Bool, true, ◌⊎◌, List, [], length, take, Ok, Err, Result, sym, refl, ap, ◌∙◌, subst, inl, inr, arith, length-take}
+use Rattle.std.proofs.Common.{◌≡◌, ℕ, ◌+◌, ◌^◌, Bool, true, ◌⊎◌, List, [], length, take, Ok, Err, Result, sym, refl, ap, ◌∙◌, subst, inl, inr, arith, length-take}
 use Rattle.std.proofs.lemmas.List.{take_all}
 use Rattle.lists.specs.Counted.{counted}
 use Rattle.lists.proofs.Taken.{take_min}
 use Rattle.sheet.specs.Faults.{fault}
 use Rattle.sheet.specs.declared.fault.Fault.{Fault}
-use Rattle.sheet.specs.declared.fault.Layer.{Layer}
 use Rattle.sheet.specs.declared.fault.Layer.TheVariants.{Run, Assignment as OfAssignment, Refutation as OfRefutation}
 use Rattle.question.specs.Questions.{variable_count, IsQuestion}
 use Rattle.answer.specs.Assignments.{judged}
 use Rattle.answer.specs.Reasons.{RefutationReasoned}
 use Rattle.answer.specs.Runs.{checked}
-use Rattle.answer.specs.Steps.{refused}
 use Rattle.answer.proofs.Faulting.{judged_reasoned}
 use Rattle.answer.proofs.Verdicts.{check_reasoned}
-use Rattle.producer.specs.Replying.{Replies, Stands, Wanting, Upheld, KeepsWord}
+use Rattle.producer.specs.Replying.{Replies, Stands, Upheld}
 use Rattle.producer.specs.declared.interface.Reply.{Reply}
 use Rattle.producer.specs.declared.interface.Reply.TheVariants.{Assignment, Refutation, TooLong}
 use Rattle.checker.specs.declared.Asked.{Asked}
 use Rattle.checker.specs.declared.Weighed.{Weighed}
 use Rattle.checker.specs.declared.Ended.{Ended}
 use Rattle.checker.specs.declared.Moved.{Moved}
-use Rattle.checker.specs.declared.Moved.TheVariants.{Asked as goes_on, Ended as is-over}
 use Rattle.checker.specs.declared.Refused.{Refused}
 use Rattle.checker.specs.Lists.{Lists}
-use Rattle.checker.specs.Calls.{handed_back, fetched, showing, shown, weighing, weighed, taken}
+use Rattle.checker.specs.Calls.{fetched, showing, shown, weighing, weighed}
 use Rattle.checker.specs.Guarantees.{Decided}
-use Rattle.checker.specs.Points.{sheet_in}
 use Rattle.checker.specs.Promises.{ShownTo, WeighedTo}
-use Rattle.checker.specs.Series.{at_asked, at_weighed, at_ended, reached, Series}
+use Rattle.checker.specs.Series.{at_asked, at_ended, reached, Series}
 use Rattle.checker.proofs.Guaranteeing.{goes_on as goes-on-all, count_is_true, standing_question}
-use Rattle.driver.specs.Driving.{Marked, Turn, assignment_in, weighed_turn, unanswered, answered, Asking, Driven, stops, ends, goes}
+use Rattle.driver.specs.Driving.{Marked, Turn, assignment_in, weighed_turn, answered, Asking, Driven, stops, ends, goes}
 use Rattle.driver.specs.Guarantee.{OnSeries, Unanswered, HonestEnd, SaysTooLong}
 
 -- ---- the assignment is the front of the answer list

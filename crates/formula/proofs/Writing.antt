@@ -15,7 +15,7 @@ use Rattle.machine.specs.Bits.{bit}
 use Rattle.formula.specs.declared.start.Started.{Started}
 use Rattle.formula.specs.Conjunction.{Outcome, grown, short}
 use Rattle.formula.specs.Starting.{join_starts, start_in, start_size, Starts, TrueAtStarts}
-use Rattle.formula.specs.Built.{literal, started, start_over, write_start, size_of_start}
+use Rattle.formula.specs.Built.{started, start_over, write_start, size_of_start}
 use Rattle.formula.proofs.Valued.{SamePairs, value_same, gates_same}
 use Rattle.formula.proofs.Starts.{starts_from}
 use Rattle.formula.proofs.Sizes.{start_short, start_count}

@@ -3,7 +3,6 @@ use Rattle.std.proofs.Common.{◌/◌, ◌≡◌, ℕ, zero, suc, ◌+◌, ◌-�
 use Rattle.std.proofs.lemmas.List.{get_or-set_other}
 use Rattle.std.proofs.lemmas.Bool.{cond_both}
 use Rattle.lists.specs.Counted.{counted}
-use Rattle.sheet.specs.declared.literal.Literal.{Literal}
 use Rattle.formula.specs.Conjunction.{Outcome, grown, short, new_gate, conjoin_by, conjoin, negated, disjoin, simple, opposite}
 use Rattle.formula.specs.Starting.{onward}
 use Rattle.question.specs.Questions.{clause_count, clause_of}

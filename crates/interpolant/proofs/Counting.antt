@@ -2,7 +2,6 @@
 use Rattle.std.proofs.Common.{◌/◌, ◌≡◌, ℕ, zero, suc, ◌+◌, ◌-◌, ◌*◌, ◌^◌, ◌<◌, ◌≤◌, min, max, ◌&&◌, ltb, leb, List, [], ◌∷◌, length, get_or, set, replicate, Some, None, Option, Result, sym, refl, ap, ◌∙◌, subst, ⊎_elim, arith, length-set, length-take}
 use Rattle.std.proofs.lemmas.Bool.{cond_both, cond-true, cond-false, and_from, le-leb, lt-ltb, le-ltb, both_ways, cases_lt}
 use Rattle.lists.specs.Counted.{counted}
-use Rattle.sheet.specs.declared.literal.Literal.{Literal}
 use Rattle.formula.specs.Conjunction.{Outcome, grown, short, new_gate, conjoin_by, conjoin, negated, disjoin, simple, opposite}
 use Rattle.formula.specs.Starting.{onward}
 use Rattle.question.specs.Questions.{clause_count, first_count, clause_of}

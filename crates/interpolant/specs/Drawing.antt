@@ -1,7 +1,6 @@
 -- How the interpolant of a refutation is drawn into a formula list, with frames of w nodes and the cut u. Assumes nothing.
-use Rattle.std.specs.Prelude.{◌/◌, ◌≡◌, ℕ, zero, suc, ◌+◌, ◌-◌, ◌*◌, ◌^◌, ◌<◌, ◌≤◌, min, cond, List, [], ◌∷◌, ◌++◌, length, replicate, Some, None, Ok, Err, Option, Result, MatchOption, nat_le, nat_lt, slice_index, slice_set}
+use Rattle.std.specs.Prelude.{◌/◌, ◌≡◌, ℕ, zero, suc, ◌+◌, ◌-◌, ◌*◌, ◌^◌, ◌<◌, ◌≤◌, min, cond, List, [], ◌∷◌, ◌++◌, length, replicate, Ok, Err, Option, Result, MatchOption, nat_le, nat_lt, slice_index, slice_set}
 use Rattle.lists.specs.Counted.{counted, uncounted}
-use Rattle.sheet.specs.declared.literal.Literal.{Literal}
 use Rattle.formula.specs.Built.{literal}
 use Rattle.formula.specs.Conjunction.{Outcome, grown, short, conjoin, disjoin}
 use Rattle.formula.specs.Starting.{onward}
@@ -10,7 +9,7 @@ use Rattle.answer.specs.Derivations.{total}
 use Rattle.answer.specs.Steps.{step_count, step_of}
 use Rattle.answer.specs.declared.steps.Step.{Step}
 use Rattle.interpolant.specs.Interpolation.{Cut, line_count}
-use Rattle.interpolant.specs.Parting.{width_in, cut_of, latch_in}
+use Rattle.interpolant.specs.Parting.{width_in, cut_of}
 use Rattle.interpolant.specs.declared.draw.Short.{Short}
 use Rattle.interpolant.specs.declared.draw.Short.TheVariants.{LineValues, Formula}
 use Rattle.interpolant.specs.declared.draw.Drawn.{Drawn}

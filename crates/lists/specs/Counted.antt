@@ -1,5 +1,5 @@
 -- Of a list at most the first 2^28 places count. Assumes nothing.
-use Rattle.std.specs.Prelude.{ℕ, ◌^◌, List, ◌++◌, take, drop}
+use Rattle.std.specs.Prelude.{◌^◌, List, ◌++◌, take, drop}
 
 abbrev pub counted : {X : Type 0} → List X → List X
 counted xs = take (2 ^ 28) xs

@@ -1,8 +1,8 @@
 -- Bad states, bad runs and what they reach. Assumes nothing.
-use Rattle.std.proofs.Common.{◌≡◌, ℕ, ◌≤◌, List, [], ◌∷◌, length, refl, arith}
+use Rattle.std.proofs.Common.{◌≡◌, ℕ, List, [], ◌∷◌, length, refl, arith}
 use Rattle.sheet.specs.Sheets.{Sheet}
 use Rattle.machine.specs.Runs.{State, Frame, Starts, BadIn, last_frame, Run, BadPath, BadRun, BadState, Reaches}
-use Rattle.machine.specs.Depth.{ReverseDepth, BadRuns}
+use Rattle.machine.specs.Depth.{BadRuns}
 
 module _ (s : Sheet) where
   -- a path of no steps is one frame

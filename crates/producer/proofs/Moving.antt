@@ -1,5 +1,5 @@
 -- The turns of the machine. Assumes nothing.
-use Rattle.std.proofs.Common.{◌≡◌, ℕ, zero, suc, ◌+◌, ◌-◌, ◌*◌, ◌<◌, ◌≤◌, true, false, cond, eqb, ◌⊎◌, List, [], ◌∷◌, ◌++◌, length, get_or, take, set, Some, None, Option, sym, refl, ap, ◌∙◌, subst, ⊎_elim, arith}
+use Rattle.std.proofs.Common.{◌≡◌, ℕ, zero, suc, ◌+◌, ◌-◌, ◌*◌, ◌<◌, ◌≤◌, true, false, cond, eqb, List, [], ◌∷◌, ◌++◌, length, get_or, take, set, Some, None, Option, sym, refl, ap, ◌∙◌, subst, ⊎_elim, arith}
 use Rattle.std.proofs.lemmas.List.{get_or-set_same, get_or-set_other}
 use Rattle.std.proofs.lemmas.Bool.{cond-true, cond-false, cases_eq}
 use Rattle.answer.specs.declared.steps.Step.{Step}
@@ -9,7 +9,7 @@ use Rattle.producer.specs.declared.interface.Reply.TheVariants.{Assignment, Refu
 use Rattle.question.specs.Questions.{clause_count, clause_of}
 use Rattle.answer.specs.Joint.{joint}
 use Rattle.producer.specs.Procedure.{mentions, lowest, lowest_at, End, Found, Closed, Long, fits, resolved, after_zero, closing, split, put}
-use Rattle.producer.specs.Machine.{Frame, Zero, One, values, resume, mark, Row, Held, Holds, Agree, Turned, Unset, Joined, Going, Stood, cost, owed, ahead, turns, Moved}
+use Rattle.producer.specs.Machine.{Frame, Zero, One, values, resume, mark, Row, Held, Holds, Agree, Turned, Unset, Joined, Going, Stood, cost, owed, ahead, Moved}
 use Rattle.producer.proofs.Stacks.{row_low, holds_agree, agree_from, agree_unset, numbers_are, length_values, taken, mark_none, mark_some, mark_joint, cost_some, owed_same, owed_zero, owed_one, owed_more, cost_next}
 
 module _ (q : List ℕ) (n : ℕ) where

@@ -1,5 +1,5 @@
 -- Where the clauses of a question lie, and their last literals. Assumes nothing.
-use Rattle.std.proofs.Common.{◌≡◌, ℕ, zero, suc, ◌+◌, ◌-◌, ◌/◌, ◌<◌, ◌≤◌, ◌⊎◌, List, [], ◌∷◌, length, get_or, drop, sym, refl, ap, subst, inl, inr, ⊎_elim, arith, length-drop, length-take}
+use Rattle.std.proofs.Common.{◌≡◌, ℕ, zero, suc, ◌+◌, ◌-◌, ◌/◌, ◌<◌, ◌≤◌, List, [], ◌∷◌, length, get_or, drop, sym, refl, ap, subst, inl, inr, ⊎_elim, arith, length-drop, length-take}
 use Rattle.question.specs.Questions.{clause_count, clause_of, Mem, Clause, IsQuestion}
 
 module _ (q : List ℕ) (is : IsQuestion q) where

@@ -1,5 +1,5 @@
 -- The splitting procedure on whole lists, of which the first places count. Assumes nothing.
-use Rattle.std.proofs.Common.{◌≡◌, ℕ, ◌+◌, ◌-◌, ◌^◌, min, true, List, ◌++◌, length, take, drop, sym, ap, ◌∙◌, subst, arith, length-append, length-drop, length-take}
+use Rattle.std.proofs.Common.{◌≡◌, ℕ, ◌^◌, min, true, List, ◌++◌, length, take, drop, sym, ap, ◌∙◌, subst, arith, length-append, length-drop, length-take}
 use Rattle.lists.specs.Counted.{counted, uncounted}
 use Rattle.lists.proofs.Taken.{take_min, drop_min, take_refronted}
 use Rattle.producer.specs.Procedure.{decided, answer_at, splitting, splits}

@@ -1,6 +1,6 @@
 -- A question: clauses in a list. How many variables, clauses, and clauses of the first part there are; the places where clauses
 -- start and where the last one ends; the literals. Assumes nothing.
-use Rattle.std.specs.Prelude.{◌≡◌, ℕ, ◌+◌, ◌-◌, ◌*◌, ◌/◌, ◌<◌, ◌≤◌, Bool, true, ◌⊎◌, List, [], ◌∷◌, length, take, drop, slice_index, slice_index_or}
+use Rattle.std.specs.Prelude.{◌≡◌, ℕ, ◌+◌, ◌-◌, ◌/◌, ◌<◌, ◌≤◌, Bool, true, ◌⊎◌, List, [], ◌∷◌, length, take, drop, slice_index, slice_index_or}
 use Rattle.signal.specs.Truth.{holds}
 
 abbrev pub variable_count : List ℕ → ℕ

@@ -4,7 +4,7 @@ use Rattle.lists.specs.Counted.{counted, on_counted}
 use Rattle.sheet.specs.declared.fault.Fault.{Fault}
 use Rattle.sheet.specs.declared.line.Due.{Due}
 use Rattle.sheet.specs.declared.line.Due.TheVariants.{OfLatch, OfGate}
-use Rattle.sheet.specs.Sheets.{input_count, latch_count, gate_count, bad_of, most_literal, size_of}
+use Rattle.sheet.specs.Sheets.{input_count, latch_count, gate_count, bad_of, most_literal}
 use Rattle.sheet.specs.Parse.{refusal, in_range, letter, ordered}
 
 -- the digits of a number of at most three

@@ -1,9 +1,8 @@
 -- What reading and writing are to each other, in the words of the format. Assumes nothing.
-use Rattle.std.specs.Prelude.{◌≡◌, ℕ, ◌<◌, ◌≤◌, List, ◌++◌, length, take, Ok, Err, Result}
-use Rattle.lists.specs.Counted.{counted, uncounted, on_counted}
-use Rattle.sheet.specs.declared.fault.Fault.{Fault}
+use Rattle.std.specs.Prelude.{◌≡◌, ℕ, List, length, Ok}
+use Rattle.lists.specs.Counted.{uncounted, on_counted}
 use Rattle.sheet.specs.Sheets.{Legal, size_of}
-use Rattle.sheet.specs.Parse.{parse, read_text, refusal}
+use Rattle.sheet.specs.Parse.{parse, read_text}
 use Rattle.sheet.specs.Render.{text_of, placed, write_text}
 
 -- both or neither

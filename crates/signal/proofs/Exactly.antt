@@ -1,8 +1,8 @@
 -- A literal and a clause may be exactly the bits that the laws of a kind make them. Assumes nothing.
-use Rattle.std.proofs.Common.{◌≡◌, ℕ, ◌/◌, ◌%◌, Bool, true, false, cond, not, eqb, List, [], ◌∷◌, get_or, refl, ◌∙◌}
+use Rattle.std.proofs.Common.{◌≡◌, ℕ, ◌/◌, ◌%◌, Bool, true, false, cond, eqb, List, [], ◌∷◌, get_or, refl, ◌∙◌}
 use Rattle.signal.specs.Circuit.{Ops, disjunction, literal_of, or_all, clause_of}
 use Rattle.signal.specs.Exact.{literal_set, or_sets, clause_set}
-use Rattle.signal.specs.Sets.{exactly, nots, ands, ors}
+use Rattle.signal.specs.Sets.{exactly, nots, ors}
 use Rattle.signal.specs.Sound.{Sound}
 
 ors_same : (p q s t : Bool → Bool) → ((c : Bool) → p c ≡ s c) → ((c : Bool) → q c ≡ t c) → (c : Bool) → ors p q c ≡ ors s t c

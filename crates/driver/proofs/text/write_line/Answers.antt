@@ -1,4 +1,3 @@
-use Rattle.std.proofs.Common.{arith}
 use Rattle.std.proofs.lemmas.Result.{IfOk-weaker}
 use Rattle.driver.proofs.Lines.{number_more, line_end}
 use Rattle.driver.proofs.text.write_line.Goals as goal
