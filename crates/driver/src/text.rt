@@ -10,7 +10,6 @@ use lists::counted;
 use question::read::number_at;
 use sheet::fault::Fault;
 use std::alloc::{AllocError, Global};
-use std::fmt;
 
 // What lies behind the first places of a list.
 fn behind(list: &[u32], count: u32) -> &[u32]
@@ -40,7 +39,7 @@ fn report_text(heap: Global, report: Report) -> Result<String, AllocError>
 }
 
 // Adds a line: a word, and the first `count` numbers of a list.
-fn write_line(text: &mut String, word: &str, numbers: &[u32], count: u32) -> fmt::Result
+fn write_line(text: &mut String, word: &str, numbers: &[u32], count: u32) -> Result<(), AllocError>
     ensures { OnOk result (string_bytes text.new ≡ string_bytes text.old ++ line_text word.now (numbers_from numbers.now 0 count)) }
 {
     write!(text, "{word}")?;
@@ -58,7 +57,7 @@ fn write_frames(
     inputs: u32,
     last: u32,
     frames: &[u32],
-) -> fmt::Result
+) -> Result<(), AllocError>
     ensures { OnOk result (string_bytes text.new ≡ string_bytes text.old ++ frames_text (suc last) latches inputs frames.now) }
 {
     let mut rest = frames;
@@ -72,7 +71,12 @@ fn write_frames(
 }
 
 // Adds the frames of a run, where that is the verdict.
-fn write_run(text: &mut String, verdict: Verdict, sheet: &[u32], run: &[u32]) -> fmt::Result
+fn write_run(
+    text: &mut String,
+    verdict: Verdict,
+    sheet: &[u32],
+    run: &[u32],
+) -> Result<(), AllocError>
     ensures { OnOk result (string_bytes text.new ≡ string_bytes text.old ++ run_text verdict (latch_count (counted sheet.now)) (input_count (counted sheet.now)) (counted run.now)) }
 {
     match verdict {
@@ -98,10 +102,8 @@ pub fn ended_text(
     ensures shows_each_frame { IfOk result (λ s. ShowsRun report sheet.now run.now (string_bytes s)) }
 {
     let mut text = report_text(heap, report)?;
-    match write_run(&mut text, report.verdict, sheet, run) {
-        Ok(()) => Ok(text),
-        Err(_) => Err(AllocError),
-    }
+    write_run(&mut text, report.verdict, sheet, run)?;
+    Ok(text)
 }
 
 // What is said of a refusal.
