@@ -725,7 +725,7 @@ fn screens_before_recorded(row: &Screened) -> bool {
     };
     let reply = pair.answer(row.question, &mut answer, &mut work);
     let asked = pair.second.position() == 1;
-    is_so(row, reply, &answer, &work) && asked == (row.answer != &[1, 0])
+    is_so(row, reply, &answer, &work) && asked == (row.answer != [1, 0].as_slice())
 }
 
 #[test]

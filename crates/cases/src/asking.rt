@@ -70,7 +70,7 @@ fn path_of_the_idle_latch(rt: HostRuntime) {
             4, 6, 4, 10, 11, 13, 15, 16, 17, 18, 1, 0, 7, 1, 6, 3, 5, 6, 0,
         ]
     );
-    assert!(rt; clause(&list, 1) == &[0, 7] && clause(&list, 5) == &[6]);
+    assert!(rt; clause(&list, 1) == [0, 7].as_slice() && clause(&list, 5) == [6].as_slice());
     let mut short = [9; 17];
     assert_eq!(rt; path_question(&IDLE, &[], 0, r, 0, &mut short), None);
     assert_eq!(rt; path_question(&IDLE, &[], 0, r, 31, &mut list), None);

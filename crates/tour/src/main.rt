@@ -1,14 +1,11 @@
 // A walk through one real task, with all that is done printed: a new hoop driver beside an older needle board.
 #![tactic(auto)]
 
-use answer::assignments::satisfies;
 use answer::refutations::check_refutation;
 use anyhow::anyhow;
 use formula::start::{Started, start_formula};
 use interpolant::draw::{Drawn, interpolate};
 use machine::simulate::simulate_bits;
-use producer::interface::{Producer, Reply};
-use producer::split::Splitting;
 use question::build::{inclusion_question, path_question, start_question};
 use question::read::{clause_count, first_count, variable_count};
 use sheet::fault::Fault;
@@ -27,12 +24,13 @@ const FORMULA_PLACES: usize = 64;
 
 const QUESTION_PLACES: usize = 1024;
 
-const ANSWER_PLACES: usize = 1024;
-
-const WORK_PLACES: usize = 2048;
-
-// The latches of both sheets, in order; the first has two of them.
-const LATCHES: [&str; 3] = ["armed", "wrong", "pending"];
+// A refutation of the path question at bound 0 of the first sheet: from no start state is a bad one reached in one step.
+const HOOP_DRIVER_REFUTED: [u32; 94] = [
+    31, 40, 18, 16, 15, 41, 10, 42, 10, 9, 43, 7, 8, 23, 20, 22, 44, 45, 5, 40, 18, 16, 15, 47, 10,
+    48, 10, 9, 49, 8, 8, 23, 20, 22, 50, 51, 5, 40, 18, 16, 15, 53, 10, 54, 10, 9, 55, 7, 8, 23,
+    20, 22, 56, 57, 5, 40, 18, 16, 15, 59, 10, 60, 11, 9, 23, 20, 22, 61, 62, 5, 40, 18, 16, 15,
+    64, 10, 65, 10, 9, 66, 7, 8, 23, 20, 22, 67, 68, 5, 23, 21, 22, 69, 70, 4,
+];
 
 // What the driver does at each step: announces a needle number, has a value to send, and the value is a thread weight. This
 // is the order of signals in which the old board takes a weight for a needle number.
@@ -112,226 +110,113 @@ fn run(rt: &HostRuntime, list: &[u32; SHEET_PLACES]) -> anyhow::Result<()> {
     simulate(rt, list, &mut state[0..count])
 }
 
-// A literal of a formula: a latch by its name, a gate by its number.
-fn show_literal(rt: &HostRuntime, inputs: u32, literal: Literal) -> io::Result<()> {
-    if literal.node() == 0 {
-        return print!(rt;
-            " {}",
-            if literal.is_negated() {
-                "always"
-            } else {
-                "never"
-            }
-        );
-    }
-    if literal.is_negated() {
-        print!(rt; " not")?;
-    }
-    let latch = literal.node().saturating_sub(inputs).saturating_sub(1);
-    match LATCHES.get(latch as usize) {
-        Some(name) => print!(rt; " {name}"),
-        None => print!(rt; " gate {}", literal.node()),
-    }
-}
-
-// The formula gates from `from` on, of which gate 0 is the node `width`.
-fn show_gates(
+// Says how large a question is, if there was room for it.
+fn show_question(
     rt: &HostRuntime,
-    inputs: u32,
-    width: u32,
-    formula: &[u32; FORMULA_PLACES],
-    from: u32,
-    to: u32,
-) -> io::Result<()> {
-    for i in from..to.min(32) {
-        print!(rt; "    gate {}:", width.saturating_add(i))?;
-        let place = 2 * i as usize % FORMULA_PLACES;
-        show_literal(rt, inputs, Literal::from_number(formula[place]))?;
-        print!(rt; " and")?;
-        show_literal(rt, inputs, Literal::from_number(formula[place + 1]))?;
-        println!(rt; "")?;
+    kind: &str,
+    question: &[u32],
+    len: Option<usize>,
+) -> anyhow::Result<()> {
+    if len.is_none() {
+        return Err(anyhow!("no room for a question"));
     }
-    Ok(())
-}
-
-// A formula: its literal, and the gates from `from` on.
-fn show_formula(
-    rt: &HostRuntime,
-    name: &str,
-    list: &[u32; SHEET_PLACES],
-    formula: &[u32; FORMULA_PLACES],
-    from: u32,
-    drawn: Drawn,
-) -> io::Result<()> {
-    let width = list[0]
-        .saturating_add(list[1])
-        .saturating_add(list[2])
-        .saturating_add(1);
-    print!(rt; "  {name}:")?;
-    show_literal(rt, list[0], drawn.literal)?;
-    println!(rt; "")?;
-    show_gates(rt, list[0], width, formula, from, drawn.gates)
-}
-
-// Says how large a question is.
-fn show_question(rt: &HostRuntime, kind: &str, question: &[u32]) -> io::Result<()> {
     let variables = variable_count(question);
     let clauses = clause_count(question);
     let first = first_count(question);
-    println!(rt; "  {kind}: {variables} variables, {clauses} clauses, {first} of the first part")
-}
-
-// An assignment, if it is judged right: the inputs and latches of its first frame.
-fn show_assignment(
-    rt: &HostRuntime,
-    list: &[u32; SHEET_PLACES],
-    question: &[u32],
-    answer: &[u32; ANSWER_PLACES],
-) -> anyhow::Result<()> {
-    let size = (variable_count(question) as usize).min(ANSWER_PLACES);
-    if let Err(fault) = satisfies(question, &answer[0..size]) {
-        return refused(rt, fault);
-    }
-    let inputs = (list[0] as usize).min(24);
-    let latches = (list[1] as usize).min(24);
-    print!(rt; "    yes, latches")?;
-    for x in &answer[1 + inputs..1 + inputs + latches] {
-        print!(rt; " {x}")?;
-    }
-    print!(rt; ", inputs")?;
-    show_numbers(rt, &answer[1..1 + inputs])?;
+    println!(rt; "  {kind}: {variables} variables, {clauses} clauses, {first} of the first part")?;
     Ok(())
 }
 
-// A refutation, if it is judged right: how many steps it has, and how many literals their clauses have.
-fn show_refutation(
-    rt: &HostRuntime,
-    question: &[u32],
-    answer: &[u32; ANSWER_PLACES],
-) -> anyhow::Result<()> {
-    let mut work = [0; WORK_PLACES];
-    if let Err(fault) = check_refutation(question, answer, &mut work) {
-        return refused(rt, fault);
-    }
-    let steps = answer[0];
-    let end = work[steps as usize % WORK_PLACES];
-    let literals = end.saturating_sub(steps).saturating_sub(1);
-    println!(rt; "    no, refuted: steps {steps}, literals {literals}")?;
-    Ok(())
-}
-
-// Has splitting answer a question, and says what it answered.
-fn solve(
-    rt: &HostRuntime,
-    list: &[u32; SHEET_PLACES],
-    question: &[u32],
-    answer: &mut [u32; ANSWER_PLACES],
-) -> anyhow::Result<Reply> {
-    let mut work = [0; WORK_PLACES];
-    let reply = Splitting.answer(question, answer, &mut work);
-    match reply {
-        Reply::Assignment => show_assignment(rt, list, question, answer)?,
-        Reply::Refutation => show_refutation(rt, question, answer)?,
-        Reply::TooLong => return Err(anyhow!("too long")),
-    }
-    Ok(reply)
-}
-
-// Is a state in R bad?
-fn ask_start(
-    rt: &HostRuntime,
-    list: &[u32; SHEET_PLACES],
-    formula: &[u32],
-    r: Started,
-) -> anyhow::Result<()> {
+// The three questions: about the start states R, and about P, the states in which no weight has been taken for a number.
+fn ask(rt: &HostRuntime, list: &[u32], formula: &[u32], start: Started) -> anyhow::Result<()> {
+    let gates = start.count;
+    let r = start.literal;
+    let p = Literal::from_number(11);
     let mut question = [0; QUESTION_PLACES];
-    let Some(len) = start_question(list, formula, r.count, r.literal, &mut question) else {
-        return Err(anyhow!("no room for a question"));
-    };
-    let question = &question[0..len.min(QUESTION_PLACES)];
-    show_question(rt, "start question, is a start state bad", question)?;
-    let mut answer = [0; ANSWER_PLACES];
-    let _ = solve(rt, list, question, &mut answer)?;
-    Ok(())
-}
-
-// Is a bad state one step from R? If not, draws P from the refutation: what is true after one step.
-fn ask_path(
-    rt: &HostRuntime,
-    list: &[u32; SHEET_PLACES],
-    formula: &mut [u32; FORMULA_PLACES],
-    r: Started,
-) -> anyhow::Result<Drawn> {
-    let mut question = [0; QUESTION_PLACES];
-    let Some(len) = path_question(list, formula, r.count, r.literal, 0, &mut question) else {
-        return Err(anyhow!("no room for a question"));
-    };
-    let question = &question[0..len.min(QUESTION_PLACES)];
+    let len = start_question(list, formula, gates, r, &mut question);
+    show_question(rt, "start question, is a start state bad", &question, len)?;
+    let len = path_question(list, formula, gates, r, 0, &mut question);
     show_question(
         rt,
         "path question at bound 0, is a bad state one step away",
-        question,
+        &question,
+        len,
     )?;
-    let mut answer = [0; ANSWER_PLACES];
-    if solve(rt, list, question, &mut answer)? != Reply::Refutation {
-        return Err(anyhow!("a bad state is one step away"));
-    }
-    let mut values = [0; QUESTION_PLACES];
-    match interpolate(list, question, &answer, formula, r.count, &mut values) {
-        Ok(drawn) => Ok(drawn),
-        Err(_) => Err(anyhow!("no room for the drawing")),
-    }
+    let len = inclusion_question(list, formula, gates, p, r, &mut question);
+    show_question(
+        rt,
+        "inclusion question, is a state with no wrong number no start state",
+        &question,
+        len,
+    )
 }
 
-// Is a state in P not in R?
-fn ask_inclusion(
+// Judges a refutation of the path question at bound 0, and draws the formula that it tells: what is true after one step.
+fn judge(
     rt: &HostRuntime,
-    list: &[u32; SHEET_PLACES],
-    formula: &[u32],
-    r: Started,
-    p: Drawn,
+    list: &[u32],
+    formula: &mut [u32],
+    start: Started,
+    refutation: &[u32],
 ) -> anyhow::Result<()> {
     let mut question = [0; QUESTION_PLACES];
-    let Some(len) = inclusion_question(list, formula, p.gates, p.literal, r.literal, &mut question)
+    let Some(len) = path_question(list, formula, start.count, start.literal, 0, &mut question)
     else {
         return Err(anyhow!("no room for a question"));
     };
     let question = &question[0..len.min(QUESTION_PLACES)];
-    show_question(
-        rt,
-        "inclusion question, is one of those states no start state",
+    let mut work = [0; QUESTION_PLACES];
+    if let Err(fault) = check_refutation(question, refutation, &mut work) {
+        return refused(rt, fault);
+    }
+    let mut values = [0; QUESTION_PLACES];
+    let Ok(drawn) = interpolate(
+        list,
         question,
+        refutation,
+        formula,
+        start.count,
+        &mut values,
+    ) else {
+        return Err(anyhow!("no room for the drawing"));
+    };
+    show_drawn(rt, &work, refutation, drawn)
+}
+
+// Says how large a refutation was, and what was drawn from it.
+fn show_drawn(
+    rt: &HostRuntime,
+    work: &[u32; QUESTION_PLACES],
+    refutation: &[u32],
+    drawn: Drawn,
+) -> anyhow::Result<()> {
+    let steps = refutation.first().copied().unwrap_or(0);
+    let literals = work[steps as usize % QUESTION_PLACES].saturating_sub(steps.saturating_add(1));
+    let literal = drawn.literal.number();
+    let gates = drawn.gates;
+    println!(rt;
+        "  path question refuted in {steps} steps with {literals} literals; formula drawn: literal {literal}, {gates} gates"
     )?;
-    let mut answer = [0; ANSWER_PLACES];
-    let _ = solve(rt, list, question, &mut answer)?;
     Ok(())
 }
 
-// The questions that begin with the start formula, each answered by splitting.
-fn ask(rt: &HostRuntime, list: &[u32; SHEET_PLACES]) -> anyhow::Result<()> {
+// The start formula, and the questions that begin with it.
+fn pose(rt: &HostRuntime, list: &[u32], refutation: &[u32]) -> anyhow::Result<()> {
     let mut formula = [0; FORMULA_PLACES];
-    let Some(r) = start_formula(list, &mut formula) else {
+    let Some(start) = start_formula(list, &mut formula) else {
         return Err(anyhow!("no room for the start formula"));
     };
-    let started = Drawn {
-        literal: r.literal,
-        gates: r.count,
-    };
-    show_formula(rt, "start formula", list, &formula, 0, started)?;
-    ask_start(rt, list, &formula, r)?;
-    let p = ask_path(rt, list, &mut formula, r)?;
-    show_formula(
-        rt,
-        "formula drawn, true after one step",
-        list,
-        &formula,
-        r.count,
-        p,
-    )?;
-    ask_inclusion(rt, list, &formula, r, p)
+    let literal = start.literal.number();
+    let gates = start.count;
+    println!(rt; "  start formula: literal {literal}, {gates} gates")?;
+    ask(rt, list, &formula, start)?;
+    if refutation.is_empty() {
+        return Ok(());
+    }
+    judge(rt, list, &mut formula, start, refutation)
 }
 
-fn walk(rt: &HostRuntime, name: &str, latches: &str) -> anyhow::Result<()> {
+fn walk(rt: &HostRuntime, name: &str, latches: &str, refutation: &[u32]) -> anyhow::Result<()> {
     let text = fs::read(rt, name)?;
     let mut list = [0; SHEET_PLACES];
     let places = match read(&text, &mut list) {
@@ -347,14 +232,24 @@ fn walk(rt: &HostRuntime, name: &str, latches: &str) -> anyhow::Result<()> {
     write_back(rt, &list, &text)?;
     println!(rt; "  inputs: announce, value, weight; latches: {latches}")?;
     run(rt, &list)?;
-    ask(rt, &list)
+    pose(rt, &list, refutation)
 }
 
 fn main(rt: HostRuntime) -> anyhow::Result<()> {
     println!(rt; "A hoop driver that also sends the thread weight, beside an older needle board:")?;
-    walk(&rt, "hoop-driver.sheet", "armed, wrong")?;
+    walk(
+        &rt,
+        "hoop-driver.sheet",
+        "armed, wrong",
+        &HOOP_DRIVER_REFUTED,
+    )?;
     println!(rt;
         "The same pair, repaired: the driver holds a weight back while a number is pending:"
     )?;
-    walk(&rt, "hoop-driver-repaired.sheet", "armed, wrong, pending")
+    walk(
+        &rt,
+        "hoop-driver-repaired.sheet",
+        "armed, wrong, pending",
+        &[],
+    )
 }
