@@ -1,6 +1,6 @@
 -- What the checks of an assignment say. Assumes nothing.
 use Rattle.std.proofs.Common.{◌≡◌, ℕ, zero, suc, ◌+◌, ◌-◌, ◌^◌, ◌<◌, ◌≤◌, Bool, true, false, cond, eqb, ltb, ◌⊎◌, List, [], ◌∷◌, length, get_or, drop, is_ok, Some, None, Decides, Option, Result, sym, refl, ap, ◌∙◌, inl, inr, ⊎_elim, arith, length-drop, length-take}
-use Rattle.std.specs.List.{AllByRecursion as All}
+use Rattle.std.specs.List.{AllByRecursion}
 use Rattle.std.proofs.lemmas.List.{take_all, drop_more, drop_all}
 use Rattle.std.proofs.lemmas.Bool.{cond-true, cond-false, lt-ltb, le-ltb, ltb-true, eqb-true, eq-eqb, cases_eq}
 use Rattle.sheet.specs.Faults.{and_then, demand}
@@ -59,12 +59,12 @@ bit_from zero h = inl refl
 bit_from (suc zero) h = inr refl
 bit_from (suc (suc x)) h = absurd (omega arith)
 
-bits_from : (i : ℕ) (xs : List ℕ) → first_non_bit i xs ≡ None → All Bit xs
+bits_from : (i : ℕ) (xs : List ℕ) → first_non_bit i xs ≡ None → AllByRecursion Bit xs
 bits_from i [] h = tt
 bits_from i (x ∷ xs) h =
-    none_from (ltb x 2) (first_non_bit (i + 1) xs) i (All Bit (x ∷ xs)) (λ e n. (bit_from x (ltb-true x 2 e), bits_from (i + 1) xs n)) h
+    none_from (ltb x 2) (first_non_bit (i + 1) xs) i (AllByRecursion Bit (x ∷ xs)) (λ e n. (bit_from x (ltb-true x 2 e), bits_from (i + 1) xs n)) h
 
-bits_to : (i : ℕ) (xs : List ℕ) → All Bit xs → first_non_bit i xs ≡ None
+bits_to : (i : ℕ) (xs : List ℕ) → AllByRecursion Bit xs → first_non_bit i xs ≡ None
 bits_to i [] h = refl
 bits_to i (x ∷ xs) h = cond-true _ _ _ (lt-ltb x 2 (⊎_elim (λ e. omega arith) (λ e. omega arith) h.0)) ∙ bits_to (i + 1) xs h.1
 

@@ -1,6 +1,6 @@
 -- An assignment in a list, a number for each variable, and what is wrong with it. Assumes nothing.
 use Rattle.std.specs.Prelude.{◌≡◌, ℕ, zero, suc, ◌+◌, Bool, cond, ◌⊎◌, List, [], ◌∷◌, length, Some, None, Ok, Err, Option, Result, ◌==◌, nat_lt}
-use Rattle.std.specs.List.{AllByRecursion as All}
+use Rattle.std.specs.List.{AllByRecursion}
 use Rattle.sheet.specs.Faults.{fault, and_then, demand}
 use Rattle.sheet.specs.declared.fault.Fault.{Fault}
 use Rattle.sheet.specs.declared.fault.Layer.TheVariants.{Assignment}
@@ -31,5 +31,5 @@ judged q numbers =
 -- a bit for each variable, and they make every clause true
 pub record Satisfying (q numbers : List ℕ) : Type 0 where
   pub whole : length numbers ≡ variable_count q
-  pub bits : All (λ x. (x ≡ 0) ⊎ (x ≡ 1)) numbers
+  pub bits : AllByRecursion (λ x. (x ≡ 0) ⊎ (x ≡ 1)) numbers
   pub clauses : Satisfies (bits_of numbers) q

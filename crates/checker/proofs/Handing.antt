@@ -1,6 +1,6 @@
 -- What a run list hands over: the frames of the assignment. Assumes nothing.
 use Rattle.std.proofs.Common.{◌≡◌, ℕ, zero, suc, ◌+◌, ◌*◌, not, eqb, ◌⊎◌, List, [], ◌∷◌, ◌++◌, map, length, get_or, sym, refl, ap, ◌∙◌, inl, ⊎_elim, arith}
-use Rattle.std.specs.List.{range_with_len, AllByRecursion as All}
+use Rattle.std.specs.List.{range_with_len, AllByRecursion}
 use Rattle.std.proofs.lemmas.List.{append-nil}
 use Rattle.lists.specs.Stretch.{stretch}
 use Rattle.signal.specs.Truth.{bits_of}
@@ -16,7 +16,7 @@ use Rattle.checker.proofs.Tracing.{length_frame}
 abbrev IsBit : ℕ → Type 0
 IsBit x = (x ≡ 0) ⊎ (x ≡ 1)
 
-bit_at : (xs : List ℕ) → All IsBit xs → (j : ℕ) → IsBit (get_or xs j 0)
+bit_at : (xs : List ℕ) → AllByRecursion IsBit xs → (j : ℕ) → IsBit (get_or xs j 0)
 bit_at [] all j = inl refl
 bit_at (x ∷ xs) all zero = all.0
 bit_at (x ∷ xs) all (suc j) = bit_at xs all.1 j
@@ -27,7 +27,7 @@ number_is x =
     (λ (e : x ≡ 0). e ∙ sym (ap (λ (n : ℕ). bit_number (not (eqb n 0))) e))
     (λ (e : x ≡ 1). e ∙ sym (ap (λ (n : ℕ). bit_number (not (eqb n 0))) e))
 
-module _ (s : Sheet) (xs : List ℕ) (bits : All (λ x. (x ≡ 0) ⊎ (x ≡ 1)) xs) where
+module _ (s : Sheet) (xs : List ℕ) (bits : AllByRecursion (λ x. (x ≡ 0) ⊎ (x ≡ 1)) xs) where
   numbers_are : (n i : ℕ) → numbers_from xs i n ≡ map bit_number (map (bits_of xs) (range_with_len i n))
   numbers_are zero i = refl
   numbers_are (suc n) i = (λ k. number_is (get_or xs i 0) (bit_at xs bits i) k ∷ numbers_are n (i + 1) k)

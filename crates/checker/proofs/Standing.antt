@@ -1,7 +1,7 @@
 -- What holds while a question of a check stands, and where a check has ended: the check is at a point of the procedure over sets
 -- of states. Assumes nothing.
 use Rattle.std.proofs.Common.{◌≡◌, ℕ, ◌+◌, ◌*◌, ◌^◌, ◌<◌, ◌≤◌, false, ◌⊎◌, List, length}
-use Rattle.std.specs.List.{AllByRecursion as All}
+use Rattle.std.specs.List.{AllByRecursion}
 use Rattle.lists.specs.Counted.{counted}
 use Rattle.sheet.specs.declared.literal.Literal.{Literal}
 use Rattle.sheet.specs.Sheets.{Sheet, Legal}
@@ -100,7 +100,7 @@ pub record Stands (l : List ℕ) (K Q : ℕ) (C : Known l) (a : Asked) (x : List
 pub record Ran (l : List ℕ) (C : Known l) (last v n : ℕ) (xs : List ℕ) : Type 0 where
   pub legal : Legal (counted l)
   pub whole : length xs ≡ v
-  pub bits : All (λ x. (x ≡ 0) ⊎ (x ≡ 1)) xs
+  pub bits : AllByRecursion (λ x. (x ≡ 0) ⊎ (x ≡ 1)) xs
   pub tells : (t : ℕ) → t ≤ last → FrameTells (sheet_in l) (bits_of xs) t
   pub starts : Starts (sheet_in l) (frame_at (sheet_in l) (bits_of xs) 0).state
   pub follows : (t : ℕ) → t < last → Follows (sheet_in l) (frame_at (sheet_in l) (bits_of xs) t) (frame_at (sheet_in l) (bits_of xs) (t + 1)).state

@@ -11,7 +11,7 @@ ghost use Rattle.checker.specs.Opening.{Opened, opened, start_made};
 ghost use Rattle.checker.specs.Calls.{handed_back, fetched, shown, weighed, taken, set_aside};
 ghost use Rattle.checker.specs.Promises.{Begins, ShowGoesOn, WeighGoesOn, TakeGoesOn, AsideGoesOn, ShownAnswers, TakenAnswers, FetchedStands, CountsTurns, ShownFewer, MovedFewer, WeighedSame};
 
-use crate::lists::{said_part, used_part};
+use crate::lent::{said_part, used_part};
 use crate::{Answer, Asked, Kind, Limits, Moved, Refused, Region, Weighed};
 use answer::assignments::satisfies;
 use answer::refutations::check_refutation;

@@ -6,7 +6,7 @@ use sheet::fault::Fault;
 use sheet::literal::Literal;
 
 pub mod calls;
-mod lists;
+mod lent;
 pub mod policy;
 pub mod report;
 mod runs;

@@ -2,7 +2,7 @@
 ghost use Rattle.std.specs.Prelude.{◌≡◌};
 ghost use Rattle.checker.specs.Reports.{reported, read_off};
 
-use crate::lists::used_part;
+use crate::lent::used_part;
 use crate::runs::run_off;
 use crate::{End, Ended, Lack};
 use sheet::fault::Fault;

@@ -5,7 +5,7 @@ ghost use Rattle.formula.specs.Conjunction.{disjoin};
 ghost use Rattle.checker.specs.Lists.{lists, restored};
 ghost use Rattle.checker.specs.Turns.{Turned, next_bound, path_asked, inclusion_asked, lack_of, drawn, grown_by, deepened, turned, moved_by};
 
-use crate::lists::{restore, used_part, width, wipe};
+use crate::lent::{restore, used_part, width, wipe};
 use crate::policy::next_bound;
 use crate::{Answer, Asked, End, Ended, Kind, Lack, Moved, Region};
 use formula::builder::Builder;

@@ -1,6 +1,6 @@
 -- The two parts of a path question: their variables, and assignments that paths give them. Assumes nothing.
 use Rattle.std.proofs.Common.{◌≡◌, ℕ, zero, suc, ◌+◌, ◌-◌, ◌*◌, ◌/◌, ◌<◌, ◌≤◌, Bool, true, false, ◌&&◌, ◌||◌, ltb, leb, List, [], length, get_or, sym, refl, ap, ◌∙◌, subst, inl, inr, ⊎_elim, one-mul, arith}
-use Rattle.std.specs.List.{AllByRecursion as All}
+use Rattle.std.specs.List.{AllByRecursion}
 use Rattle.std.proofs.lemmas.Nat.{mul-le}
 use Rattle.std.proofs.ByRecursion.{All-get_or}
 use Rattle.std.proofs.lemmas.List.{length-append, get_or_append_left, get_or-append_right}
@@ -65,11 +65,11 @@ module _ (l q f : List ℕ) (n r k : ℕ) (legal : Legal l) (gates : Gates (shee
   second_clause i h m =
       lays.clauses i (omega (arith, lays.count)) ∙ get_or-append_right ones others (length ones) i [] refl (omega (arith, lays.first))
 
-  pub first_from : (α : ℕ → Bool) → All (Held α) ones → First q u α
+  pub first_from : (α : ℕ → Bool) → AllByRecursion (Held α) ones → First q u α
   first_from α all i h m =
       ap (holds α) (first_clause i m) ∙ All-get_or (Held α) ones i [] (omega (arith, lays.first)) all
 
-  pub second_from : (α : ℕ → Bool) → All (Held α) others → Second q u α
+  pub second_from : (α : ℕ → Bool) → AllByRecursion (Held α) others → Second q u α
   second_from α all i h m =
       ap (holds α) (second_clause i h m) ∙ All-get_or (Held α) others (i - length ones) [] (omega (arith, lays.first, size)) all
 
@@ -144,7 +144,7 @@ module _ (s : Sheet) (lawful : Lawful s) (f : List ℕ) (n : ℕ) (gates : Gates
 
   -- a step from a state in r satisfies the first part
   first_holds : (frames : ℕ → Frame s) (r : ℕ) → Formula s n r → In s f n r (frames 0).state → Follows s (frames 0) (frames 1).state
-      → All (Held (assigned s lawful f n (k + 2) gates (omega arith) frames)) (first_clauses s f n r k)
+      → AllByRecursion (Held (assigned s lawful f n (k + 2) gates (omega arith) frames)) (first_clauses s f n r k)
   first_holds frames r formula in_r follows =
       let α : ℕ → Bool = assigned s lawful f n (k + 2) gates (omega arith) frames in
       first_whole (Held α) s f n r k
@@ -157,7 +157,7 @@ module _ (s : Sheet) (lawful : Lawful s) (f : List ℕ) (n : ℕ) (gates : Gates
 
   -- a path from frame 1 on that meets a bad frame satisfies the second
   second_holds : (frames : ℕ → Frame s) → ((t : ℕ) → 1 ≤ t → t ≤ k → Follows s (frames t) (frames (t + 1)).state) → (j : ℕ) → 1 ≤ j → j ≤ k + 1 → BadIn s (frames j)
-      → All (Held (assigned s lawful f n (k + 2) gates (omega arith) frames)) (second_clauses s k)
+      → AllByRecursion (Held (assigned s lawful f n (k + 2) gates (omega arith) frames)) (second_clauses s k)
   second_holds frames follows j some few bad =
       let α : ℕ → Bool = assigned s lawful f n (k + 2) gates (omega arith) frames in
       second_whole (Held α) s k
@@ -175,13 +175,13 @@ module _ (s : Sheet) (lawful : Lawful s) (f : List ℕ) (n : ℕ) (gates : Gates
 
   -- the assignment of a step, and that of a path
   pub step_given : (r : ℕ) → Formula s n r → (a : Frame s) (c : State s) → In s f n r a.state → Follows s a c
-      → (α : ℕ → Bool) × All (Held α) (first_clauses s f n r k) × ((i : ℕ) → i < s.latches → bit c i ≡ latches_at s α i)
+      → (α : ℕ → Bool) × AllByRecursion (Held α) (first_clauses s f n r k) × ((i : ℕ) → i < s.latches → bit c i ≡ latches_at s α i)
   step_given r formula a c in_r follows =
       let frames : ℕ → Frame s = pair a (record { state = c; inputs = a.inputs }) in
       (assigned s lawful f n (k + 2) gates (omega arith) frames, first_holds frames r formula in_r follows, state_is frames)
 
   pub path_given : (c : State s) (j : ℕ) → Reaches s c j → j ≤ k
-      → (α : ℕ → Bool) × All (Held α) (second_clauses s k) × ((i : ℕ) → i < s.latches → bit c i ≡ latches_at s α i)
+      → (α : ℕ → Bool) × AllByRecursion (Held α) (second_clauses s k) × ((i : ℕ) → i < s.latches → bit c i ≡ latches_at s α i)
   path_given c j reaches few =
       let start : Frame s = record { state = c; inputs = reaches.inputs } in
       let frames : ℕ → Frame s = λ t. along s start reaches.later (t - 1) in

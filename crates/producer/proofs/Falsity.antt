@@ -2,7 +2,7 @@
 use Rattle.std.proofs.Common.{◌≡◌, ℕ, zero, suc, ◌+◌, ◌-◌, ◌*◌, ◌/◌, ◌%◌, ◌<◌, ◌≤◌, Bool, true, false, not, ◌&&◌, eqb, List, [], ◌∷◌, ◌++◌, length, get_or, replicate, Some, None, sym, refl, ap, ◌∙◌, subst, inl, inr, ⊎_elim, arith}
 use Rattle.std.proofs.lemmas.List.{get_or_append_left, get_or-append_right, get_or-replicate, get_or_default, get_or_push, get_or_past, length_push}
 use Rattle.std.proofs.lemmas.Bool.{cond_both, eqb-true, eqb-false, eq-eqb, lt-ltb, and_from, and_parts, cases_order, cases_lt, cases_eq, cases_Bool}
-use Rattle.std.specs.List.{AllByRecursion as All}
+use Rattle.std.specs.List.{AllByRecursion}
 use Rattle.signal.specs.Circuit.{clause_of as value_of}
 use Rattle.signal.specs.Kinds.{tri_ops, may_tri}
 use Rattle.signal.specs.Truth.{False as FalseAt}
@@ -32,11 +32,11 @@ pad_at a m i h = ⊎_elim
     get_or-append_right a (replicate m 2) (length a) i 0 refl l ∙ get_or-replicate m (i - length a) 2 0 (omega arith) ∙ sym (get_or_past a i 2 l))
     (cases_lt i (length a))
 
-all_mem : (P : ℕ → Type 0) (xs : List ℕ) → All P xs → (x : ℕ) → Mem x xs → P x
+all_mem : (P : ℕ → Type 0) (xs : List ℕ) → AllByRecursion P xs → (x : ℕ) → Mem x xs → P x
 all_mem P [] h x m = absurd m
 all_mem P (y ∷ ys) h x m = ⊎_elim (λ e. subst P (sym e) h.0) (λ n. all_mem P ys h.1 x n) m
 
-mem_all : (P : ℕ → Type 0) (xs : List ℕ) → ((x : ℕ) → Mem x xs → P x) → All P xs
+mem_all : (P : ℕ → Type 0) (xs : List ℕ) → ((x : ℕ) → Mem x xs → P x) → AllByRecursion P xs
 mem_all P [] h = tt
 mem_all P (y ∷ ys) h = (h y (inl refl), mem_all P ys (λ x m. h x (inr m)))
 

@@ -2,7 +2,7 @@
 use Rattle.std.proofs.Common.{◌≡◌, ℕ, zero, suc, ◌+◌, ◌-◌, ◌*◌, ◌/◌, ◌%◌, ◌^◌, ◌<◌, ◌≤◌, Bool, true, false, cond, not, ◌||◌, eqb, leb, ◌≢◌, ◌⊎◌, List, [], ◌∷◌, ◌++◌, length, get_or, take, set, replicate, Ok, sym, refl, ap, ◌∙◌, subst, inl, inr, ⊎_elim, pow-suc, arith, pow_pos, pow_mono}
 use Rattle.std.proofs.lemmas.List.{take_at, get_or_default, length-replicate, length-set, get_or-set_same, get_or-set_other}
 use Rattle.std.proofs.lemmas.Bool.{cond_both, cond-true, cond-false, eqb-true, eqb-false, lt-ltb, le-ltb, leb-false, and_cases, cases_lt, cases_Bool}
-use Rattle.std.specs.List.{AllByRecursion as All}
+use Rattle.std.specs.List.{AllByRecursion}
 use Rattle.signal.specs.Truth.{lit, holds, bits_of}
 use Rattle.question.specs.Questions.{variable_count, clause_count, clause_of, Mem, IsQuestion}
 use Rattle.answer.specs.Assignments.{judged}
@@ -61,7 +61,7 @@ bit_cases zero h = inl refl
 bit_cases (suc zero) h = inr refl
 bit_cases (suc (suc w)) h = absurd (omega arith)
 
-all_bits : (b : List ℕ) → Bits b → All (λ x. (x ≡ 0) ⊎ (x ≡ 1)) b
+all_bits : (b : List ℕ) → Bits b → AllByRecursion (λ x. (x ≡ 0) ⊎ (x ≡ 1)) b
 all_bits [] bits = tt
 all_bits (x ∷ xs) bits = (bit_cases x (bits 0 (omega arith)), all_bits xs (λ i l. bits (suc i) (omega arith)))
 

@@ -1,7 +1,7 @@
 -- The literals of every clause ascend. Assumes nothing.
 use Rattle.std.proofs.Common.{◌≡◌, ℕ, zero, suc, ◌+◌, ◌*◌, ◌/◌, ◌%◌, ◌<◌, List, [], ◌∷◌, length, add-one, arith}
 use Rattle.std.proofs.lemmas.Nat.{mul-le}
-use Rattle.std.specs.List.{AllByRecursion as All}
+use Rattle.std.specs.List.{AllByRecursion}
 use Rattle.lists.specs.Stretch.{stretch}
 use Rattle.sheet.specs.Sheets.{Sheet}
 use Rattle.machine.specs.Values.{gate_at}
@@ -25,7 +25,7 @@ pair_rises x y h = (omega arith, (over_mem (λ j. x / 2 < j) (y ∷ []) (h, tt),
 one_rises : (x : ℕ) → Rising (x ∷ [])
 one_rises x = (omega arith, (over_mem (λ j. x / 2 < j) [] tt, tt))
 
-and_rises : (x p q : ℕ) → x / 2 ≡ (x + 1) / 2 → q / 2 < p / 2 → p / 2 < x / 2 → All Rising (and_clauses x p q)
+and_rises : (x p q : ℕ) → x / 2 ≡ (x + 1) / 2 → q / 2 < p / 2 → p / 2 < x / 2 → AllByRecursion Rising (and_clauses x p q)
 and_rises x p q same a b =
     let e = opposite_half q in
     let d = opposite_half p in
@@ -80,12 +80,12 @@ module _ (s : Sheet) (lawful : Lawful s) where
         (above (right_of f g) (left_of f g) (gates.order g h))
         (above (left_of f g) own (omega (arith, named_low s g (left_of f g / 2) (gates.lefts g h))))
 
-    pub path_rises : (r k : ℕ) → All Rising (path_clauses s f n r k)
+    pub path_rises : (r k : ℕ) → AllByRecursion Rising (path_clauses s f n r k)
     path_rises r k =
         path_whole Rising s f n r k
         (record { frame = frame_rises 0; link = link_rises 0; formulas = gates_rise (k + 2); begin = one_rises (in_question w (k + 2) r) })
         (record { frames = λ t _ _. frame_rises t; links = λ t _ _. link_rises t; end = end_rises k })
 
-    pub state_rises : (x y : ℕ) → All Rising (state_clauses s f n x y)
+    pub state_rises : (x y : ℕ) → AllByRecursion Rising (state_clauses s f n x y)
     state_rises x y =
         state_whole Rising s f n x y (record { frame = frame_rises 0; formulas = gates_rise 1; first = one_rises (in_question w 1 x); second = one_rises y })

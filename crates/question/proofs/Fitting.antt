@@ -1,6 +1,6 @@
 -- Which questions have numbers of 32 bits alone. Assumes nothing.
 use Rattle.std.proofs.Common.{◌≡◌, ℕ, zero, suc, ◌+◌, ◌-◌, ◌*◌, ◌/◌, ◌%◌, ◌^◌, ◌<◌, ◌≤◌, Bool, true, false, ◌&&◌, ltb, List, [], ◌∷◌, map, length, get_or, take, drop, sym, refl, ap, ◌∙◌, subst, ⊎_elim, arith}
-use Rattle.std.specs.List.{AllByRecursion as All}
+use Rattle.std.specs.List.{AllByRecursion}
 use Rattle.std.proofs.lemmas.Nat.{mul-le}
 use Rattle.std.proofs.ByRecursion.{All-append, All-weaker}
 use Rattle.std.proofs.lemmas.List.{at_drop_more, at_drop_all, get_or-map, get_or-take, length-map, length-take-le, length-append}
@@ -33,11 +33,11 @@ same_test true b f g = sym (f refl)
 same_test false true f g = g refl
 same_test false false f g = refl
 
-below_all : (m : ℕ) (xs : List ℕ) → all_below m xs ≡ true → All (λ x. x < m) xs
+below_all : (m : ℕ) (xs : List ℕ) → all_below m xs ≡ true → AllByRecursion (λ x. x < m) xs
 below_all m [] h = tt
 below_all m (x ∷ xs) h = let p = and_parts (ltb x m) (all_below m xs) h in (ltb-true x m p.0, below_all m xs p.1)
 
-all_below_lem : (m : ℕ) (xs : List ℕ) → All (λ x. x < m) xs → all_below m xs ≡ true
+all_below_lem : (m : ℕ) (xs : List ℕ) → AllByRecursion (λ x. x < m) xs → all_below m xs ≡ true
 all_below_lem m [] h = refl
 all_below_lem m (x ∷ xs) h = and_from _ _ (lt-ltb x m h.0) (all_below_lem m xs h.1)
 
@@ -79,25 +79,25 @@ module _ (h : ℕ → ℕ) (m : ℕ) (f : List ℕ) (n : ℕ) (whole : 2 * n ≤
 abbrev pub Small : ℕ → Type 0
 Small j = j < 2 ^ 31
 
-over_flat : (cs : List (List ℕ)) → All (Over Small) cs → All (λ x. x < 2 ^ 32) (flat cs)
+over_flat : (cs : List (List ℕ)) → AllByRecursion (Over Small) cs → AllByRecursion (λ x. x < 2 ^ 32) (flat cs)
 over_flat [] h = tt
 over_flat (c ∷ cs) h =
     All-append (λ x. x < 2 ^ 32) c (flat cs) (All-weaker (λ x. Small (x / 2)) (λ x. x < 2 ^ 32) (λ x l. omega arith) c h.0) (over_flat cs h.1)
 
-flat_over : (cs : List (List ℕ)) → All (λ x. x < 2 ^ 32) (flat cs) → All (Over Small) cs
+flat_over : (cs : List (List ℕ)) → AllByRecursion (λ x. x < 2 ^ 32) (flat cs) → AllByRecursion (Over Small) cs
 flat_over [] h = tt
 flat_over (c ∷ cs) h =
     let p = all_parts (λ x. x < 2 ^ 32) c (flat cs) h in
     (All-weaker (λ x. x < 2 ^ 32) (λ x. Small (x / 2)) (λ x l. omega arith) c p.0, flat_over cs p.1)
 
-pub small_below : (cs : List (List ℕ)) → All (Over Small) cs → all_below (2 ^ 32) (flat cs) ≡ true
+pub small_below : (cs : List (List ℕ)) → AllByRecursion (Over Small) cs → all_below (2 ^ 32) (flat cs) ≡ true
 small_below cs h = all_below_lem (2 ^ 32) (flat cs) (over_flat cs h)
 
-below_small : (cs : List (List ℕ)) → all_below (2 ^ 32) (flat cs) ≡ true → All (Over Small) cs
+below_small : (cs : List (List ℕ)) → all_below (2 ^ 32) (flat cs) ≡ true → AllByRecursion (Over Small) cs
 below_small cs h = flat_over cs (below_all (2 ^ 32) (flat cs) h)
 
 -- ---- a whole list
-starts_below : (m : ℕ) (cs : List (List ℕ)) (t : ℕ) → t + length (flat cs) < m → All (λ x. x < m) (starts t cs)
+starts_below : (m : ℕ) (cs : List (List ℕ)) (t : ℕ) → t + length (flat cs) < m → AllByRecursion (λ x. x < m) (starts t cs)
 starts_below m [] t h = tt
 starts_below m (c ∷ cs) t h =
     let size = length-append c (flat cs) in

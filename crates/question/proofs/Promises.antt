@@ -1,6 +1,6 @@
 -- What a posed question promises. Assumes nothing.
 use Rattle.std.proofs.Common.{◌≡◌, ℕ, zero, suc, ◌+◌, ◌-◌, ◌*◌, ◌/◌, ◌^◌, ◌<◌, ◌≤◌, Bool, true, false, cond, ◌&&◌, leb, List, [], ◌∷◌, ◌++◌, length, take, replicate, is_some, IfSome, Some, None, Option, sym, refl, ap, ◌∙◌, subst, inl, inr, ⊎_elim, one-mul, arith, length-take}
-use Rattle.std.specs.List.{AllByRecursion as All}
+use Rattle.std.specs.List.{AllByRecursion}
 use Rattle.std.proofs.lemmas.Nat.{mul-le}
 use Rattle.std.proofs.ByRecursion.{All-weaker}
 use Rattle.std.proofs.lemmas.List.{append_assoc, take_at, get_or_past, length-append}
@@ -69,11 +69,11 @@ some_if_room q front fit =
     (cases_lt (length front) (length q))
 
 -- ---- clauses over few variables have literals of 32 bits
-mem_all : (P : ℕ → Type 0) (xs : List ℕ) → ((x : ℕ) → Mem x xs → P x) → All P xs
+mem_all : (P : ℕ → Type 0) (xs : List ℕ) → ((x : ℕ) → Mem x xs → P x) → AllByRecursion P xs
 mem_all P [] h = tt
 mem_all P (x ∷ xs) h = (h x (inl refl), mem_all P xs (λ y m. h y (inr m)))
 
-proper_small : (v : ℕ) (cs : List (List ℕ)) → v ≤ 2 ^ 31 → All (Proper v) cs → All (Over Small) cs
+proper_small : (v : ℕ) (cs : List (List ℕ)) → v ≤ 2 ^ 31 → AllByRecursion (Proper v) cs → AllByRecursion (Over Small) cs
 proper_small v cs few =
     All-weaker (Proper v) (Over Small) (λ c p. mem_all (λ x. Small (x / 2)) c (λ x m. omega (arith, p.below x m))) cs
 
@@ -94,7 +94,7 @@ module _ (b : Bool) (v a : ℕ) (cs : List (List ℕ)) (old : List ℕ) (res : O
   pub lays : IfSome res (λ m. Lays (take m new) v a cs)
   lays = told (λ xs. Lays xs v a cs) (λ _. encode_lays v a cs)
 
-  pub is_question : a ≤ length cs → (b ≡ true → All (Proper v) cs) → IfSome res (λ m. IsQuestion (take m new))
+  pub is_question : a ≤ length cs → (b ≡ true → AllByRecursion (Proper v) cs) → IfSome res (λ m. IsQuestion (take m new))
   is_question firsts proper = told IsQuestion (λ h. encode_question v a cs firsts (proper h))
 
   pub asks : (P : Type 0) → (b ≡ true → Iff (Solvable cs) P) → IfSome res (λ m. Iff (Satisfiable (take m new)) P)
@@ -113,7 +113,7 @@ module _ (b : Bool) (v a : ℕ) (cs : List (List ℕ)) (old : List ℕ) (res : O
   pub laid_so : (Q : List ℕ → Type 0) → (b ≡ true → (q : List ℕ) → Lays q v a cs → Q q) → IfSome res (λ m. Q (take m new))
   laid_so Q law = told Q (λ h. law h q (encode_lays v a cs))
 
-  pub takes : b ≡ true → v ≤ 2 ^ 31 → a ≤ length cs → All (Proper v) cs → Iff (is_some res ≡ true) (length q ≤ length (counted old))
+  pub takes : b ≡ true → v ≤ 2 ^ 31 → a ≤ length cs → AllByRecursion (Proper v) cs → Iff (is_some res ≡ true) (length q ≤ length (counted old))
   takes h few firsts proper =
       let found : res ≡ (posed q (counted old)).0 = ap (λ (p : Posed). p.0) (is ∙ cond-true _ _ _ h) in
       let short : length (counted old) ≤ 2 ^ 28 = omega (arith, length-take (2 ^ 28) old) in

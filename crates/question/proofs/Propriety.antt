@@ -1,6 +1,6 @@
 -- Every clause of a question is a clause over the question's variables. Assumes nothing.
 use Rattle.std.proofs.Common.{◌≡◌, ℕ, ◌+◌, ◌*◌, ◌/◌, ◌<◌, ◌≤◌, List, subst, one-mul, zero-mul, arith}
-use Rattle.std.specs.List.{AllByRecursion as All}
+use Rattle.std.specs.List.{AllByRecursion}
 use Rattle.std.proofs.lemmas.Nat.{mul-add-lt, mul-le}
 use Rattle.std.proofs.ByRecursion.{All-append}
 use Rattle.sheet.specs.Sheets.{Sheet, sheet_of}
@@ -14,7 +14,7 @@ use Rattle.question.proofs.Ascents.{Rising, path_rises, state_rises}
 use Rattle.question.proofs.Parts.{all_both}
 use Rattle.question.proofs.Variables.{Lawful, legal_lawful, Over, over_mem, NodesOf, FormulaNodes, formula_over, first_over, second_over, state_over}
 
-pub all_proper : (v : ℕ) (cs : List (List ℕ)) → All Rising cs → All (Over (λ j. j < v)) cs → All (Proper v) cs
+pub all_proper : (v : ℕ) (cs : List (List ℕ)) → AllByRecursion Rising cs → AllByRecursion (Over (λ j. j < v)) cs → AllByRecursion (Proper v) cs
 all_proper v =
     all_both Rising (Over (λ j. j < v)) (Proper v) (λ c rises over.
     record { some_literal = rises.0; ascends = rises.1; below = over_mem (λ j. j < v) c over })
@@ -42,7 +42,7 @@ module _ (s : Sheet) (lawful : Lawful s) (f : List ℕ) (n : ℕ) (gates : Gates
     formula_below h x is =
         formula_over Below s lawful m n x h (omega (arith, mul-le 1 (width s) m (width s) h (omega arith), one-mul (width s))) (formulas_below h) is
 
-  pub path_all_proper : (r k : ℕ) → Formula s n r → All (Proper ((k + 2) * width s + n)) (path_clauses s f n r k)
+  pub path_all_proper : (r k : ℕ) → Formula s n r → AllByRecursion (Proper ((k + 2) * width s + n)) (path_clauses s f n r k)
   path_all_proper r k is =
       let m : ℕ = k + 2 in
       all_proper (v m) (path_clauses s f n r k) (path_rises s lawful f n gates r k)
@@ -52,10 +52,10 @@ module _ (s : Sheet) (lawful : Lawful s) (f : List ℕ) (n : ℕ) (gates : Gates
       (second_over (Below m) s lawful f n gates k (λ t _ l. nodes_below m t (omega arith))))
 
   -- with one
-  pub state_all_proper : (x y : ℕ) → in_question (width s) 1 x / 2 < width s + n → y / 2 < width s + n → All (Proper (width s + n)) (state_clauses s f n x y)
+  pub state_all_proper : (x y : ℕ) → in_question (width s) 1 x / 2 < width s + n → y / 2 < width s + n → AllByRecursion (Proper (width s + n)) (state_clauses s f n x y)
   state_all_proper x y a b =
       let one : v 1 ≡ width s + n = omega (arith, one-mul (width s)) in
-      subst (λ (k : ℕ). All (Proper k) (state_clauses s f n x y)) one
+      subst (λ (k : ℕ). AllByRecursion (Proper k) (state_clauses s f n x y)) one
       (all_proper (v 1) (state_clauses s f n x y) (state_rises s lawful f n gates x y)
       (state_over (Below 1) s lawful f n gates x y (nodes_below 1 0 (omega arith)) (formulas_below 1 (omega arith)) (omega arith) (omega arith)))
 

@@ -1,6 +1,6 @@
 -- The layout of clauses tells them again. Assumes nothing.
 use Rattle.std.proofs.Common.{◌≡◌, ℕ, zero, suc, ◌+◌, ◌-◌, ◌<◌, ◌≤◌, true, List, [], ◌∷◌, ◌++◌, length, get_or, take, drop, sym, refl, ap, ◌∙◌, subst, arith}
-use Rattle.std.specs.List.{AllByRecursion as All}
+use Rattle.std.specs.List.{AllByRecursion}
 use Rattle.std.proofs.ByRecursion.{All-get_or, All-from_get_or}
 use Rattle.std.proofs.lemmas.List.{append_assoc, length-append, drop-drop, drop_at, drop_more, take_at, take_all, take_more, append-nil, take-append-drop}
 use Rattle.signal.specs.Truth.{holds}
@@ -99,7 +99,7 @@ module _ (v a : ℕ) (cs : List (List ℕ)) where
   encode_place i h = sym (ap (λ (xs : List ℕ). get_or xs (3 + i) 0) (append-nil list)) ∙ place_is v a cs [] i h
 
   -- a question, if each clause is one over its variables
-  pub encode_question : a ≤ length cs → All (Proper v) cs → IsQuestion list
+  pub encode_question : a ≤ length cs → AllByRecursion (Proper v) cs → IsQuestion list
   encode_question firsts proper =
       let clause : (k : ℕ) → k < length cs → Proper v (clause_of list k) = λ k h. subst (Proper v) (sym (encode_lays.clauses k h)) (All-get_or (Proper v) cs k [] h proper) in
       record {

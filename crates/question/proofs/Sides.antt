@@ -1,6 +1,6 @@
 -- Which variables the two parts of a path question have. Assumes nothing.
 use Rattle.std.proofs.Common.{◌≡◌, ℕ, ◌+◌, ◌*◌, ◌/◌, ◌<◌, ◌≤◌, true, false, ◌||◌, ltb, leb, List, one-mul, zero-mul, arith}
-use Rattle.std.specs.List.{AllByRecursion as All}
+use Rattle.std.specs.List.{AllByRecursion}
 use Rattle.std.proofs.lemmas.Nat.{mul-add-lt, mul-le}
 use Rattle.std.proofs.ByRecursion.{All-weaker}
 use Rattle.std.proofs.lemmas.Bool.{ltb-true, leb-true, lt-ltb, le-ltb, le-leb, lt-leb, and_parts, and_from, or_from, or_left, or_right}
@@ -45,7 +45,7 @@ module _ (s : Sheet) (k : ℕ) where
     local_ours : (j : ℕ) → is_local s k j ≡ true → Ours j
     local_ours j h = or_left (is_local s k j) (is_shared s j) h
 
-    first_ours : (r : ℕ) → Formula s n r → All (Over Ours) (first_clauses s f n r k)
+    first_ours : (r : ℕ) → Formula s n r → AllByRecursion (Over Ours) (first_clauses s f n r k)
     first_ours r is =
         first_over Ours s lawful f n gates r k is
         (λ j h. local_ours (0 * w + j) (low_local (0 * w + j) (omega (arith, zero-mul w))))
@@ -58,7 +58,7 @@ module _ (s : Sheet) (k : ℕ) where
     abbrev Theirs : ℕ → Type 0
     Theirs j = is_local s k j ≡ false
 
-    second_theirs : All (Over Theirs) (second_clauses s k)
+    second_theirs : AllByRecursion (Over Theirs) (second_clauses s k)
     second_theirs =
         second_over Theirs s lawful f n gates k (λ t a b j h.
         not_local (t * w + j) (omega (arith, mul-le 1 w t w a (omega arith), one-mul w)) (omega (arith, mul-add-lt t w j (k + 2) (omega arith) h)))

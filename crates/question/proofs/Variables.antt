@@ -1,6 +1,6 @@
 -- Which variables stand in the clauses of a question. Assumes nothing.
 use Rattle.std.proofs.Common.{◌≡◌, ℕ, ◌+◌, ◌-◌, ◌*◌, ◌/◌, ◌%◌, ◌<◌, ◌≤◌, List, [], ◌∷◌, sym, ◌∙◌, subst, inr, ⊎_elim, zero-mul, arith}
-use Rattle.std.specs.List.{AllByRecursion as All}
+use Rattle.std.specs.List.{AllByRecursion}
 use Rattle.lists.specs.Stretch.{stretch}
 use Rattle.sheet.specs.Sheets.{Sheet, Legal, sheet_of}
 use Rattle.machine.specs.Values.{gate_at}
@@ -26,7 +26,7 @@ legal_lawful l legal =
 
 -- every variable of a clause is such a one
 abbrev pub Over : (ℕ → Type 0) → List ℕ → Type 0
-Over Q c = All (λ x. Q (x / 2)) c
+Over Q c = AllByRecursion (λ x. Q (x / 2)) c
 
 pub over_mem : (Q : ℕ → Type 0) (c : List ℕ) → Over Q c → (x : ℕ) → Mem x c → Q (x / 2)
 over_mem Q [] h x m = absurd m
@@ -34,7 +34,7 @@ over_mem Q (y ∷ ys) h x m =
     ⊎_elim (λ (e : x ≡ y). subst (λ (z : ℕ). Q (z / 2)) (sym e) h.0) (λ (r : Mem x ys). over_mem Q ys h.1 x r) m
 
 module _ (Q : ℕ → Type 0) where
-  and_over : (x p q : ℕ) → x / 2 ≡ (x + 1) / 2 → Q (x / 2) → Q (p / 2) → Q (q / 2) → All (Over Q) (and_clauses x p q)
+  and_over : (x p q : ℕ) → x / 2 ≡ (x + 1) / 2 → Q (x / 2) → Q (p / 2) → Q (q / 2) → AllByRecursion (Over Q) (and_clauses x p q)
   and_over x p q same a b c =
       let own : Q ((x + 1) / 2) = subst Q same a in
       let not_q : Q (opposite q / 2) = subst Q (sym (opposite_half q)) c in
@@ -125,7 +125,7 @@ module _ (Q : ℕ → Type 0) where
 
     -- ---- whole questions
     module _ (f : List ℕ) (n : ℕ) (gates : Gates s f n) where
-      pub first_over : (r k : ℕ) → Formula s n r → NodesOf 0 → LatchesOf 1 → FormulaNodes (k + 2) n → All (Over Q) (first_clauses s f n r k)
+      pub first_over : (r k : ℕ) → Formula s n r → NodesOf 0 → LatchesOf 1 → FormulaNodes (k + 2) n → AllByRecursion (Over Q) (first_clauses s f n r k)
       first_over r k formula nodes latches named =
           let zero : Q 0 = subst Q (omega (arith, zero-mul w)) (nodes 0 (omega arith)) in
           first_whole (Over Q) s f n r k
@@ -136,7 +136,7 @@ module _ (Q : ℕ → Type 0) where
             begin = (formula_over (k + 2) n r (omega arith) zero named formula, tt);
           })
 
-      pub second_over : (k : ℕ) → ((t : ℕ) → 1 ≤ t → t ≤ k + 1 → NodesOf t) → All (Over Q) (second_clauses s k)
+      pub second_over : (k : ℕ) → ((t : ℕ) → 1 ≤ t → t ≤ k + 1 → NodesOf t) → AllByRecursion (Over Q) (second_clauses s k)
       second_over k nodes =
           second_whole (Over Q) s k
           (record {
@@ -145,7 +145,7 @@ module _ (Q : ℕ → Type 0) where
             end = end_over k nodes;
           })
 
-      pub state_over : (x y : ℕ) → NodesOf 0 → FormulaNodes 1 n → Q (in_question w 1 x / 2) → Q (y / 2) → All (Over Q) (state_clauses s f n x y)
+      pub state_over : (x y : ℕ) → NodesOf 0 → FormulaNodes 1 n → Q (in_question w 1 x / 2) → Q (y / 2) → AllByRecursion (Over Q) (state_clauses s f n x y)
       state_over x y nodes named a b =
           state_whole (Over Q) s f n x y
           (record { frame = frame_over 0 nodes; formulas = gates_over 1 n f (omega arith) gates named; first = (a, tt); second = (b, tt) })

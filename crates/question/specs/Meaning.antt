@@ -1,6 +1,6 @@
 -- What the questions ask, in the machine's own words; what a satisfying assignment tells; what every clause is. Assumes nothing.
 use Rattle.std.specs.Prelude.{◌≡◌, ℕ, ◌+◌, ◌*◌, ◌/◌, ◌<◌, ◌≤◌, Bool, true, false, ◌&&◌, ◌||◌, List, map, length, nat_le, nat_lt}
-use Rattle.std.specs.List.{range_with_len, AllByRecursion as All}
+use Rattle.std.specs.List.{range_with_len, AllByRecursion}
 use Rattle.std.proofs.lemmas.List.FromFn.{length-map-range_with_len}
 use Rattle.sheet.specs.Sheets.{Sheet, Legal, sheet_of}
 use Rattle.sheet.specs.Trip.{Iff}
@@ -14,7 +14,7 @@ use Rattle.question.specs.Questions.{Mem, Clause}
 
 -- an assignment makes each of the clauses true
 abbrev pub AllHold : (ℕ → Bool) → List (List ℕ) → Type 0
-AllHold α cs = All (λ c. holds α c ≡ true) cs
+AllHold α cs = AllByRecursion (λ c. holds α c ≡ true) cs
 
 abbrev pub Solvable : List (List ℕ) → Type 0
 Solvable cs = (α : ℕ → Bool) × AllHold α cs
@@ -103,8 +103,8 @@ is_shared s j = nat_le (width s + 1 + s.inputs) j && nat_lt j (width s + 1 + s.i
 
 -- which variables the parts of a path question have
 pub record Sides (s : Sheet) (f : List ℕ) (n r k : ℕ) : Type 0 where
-  pub first : All (λ c. (x : ℕ) → Mem x c → (is_local s k (x / 2) || is_shared s (x / 2)) ≡ true) (first_clauses s f n r k)
-  pub second : All (λ c. (x : ℕ) → Mem x c → is_local s k (x / 2) ≡ false) (second_clauses s k)
+  pub first : AllByRecursion (λ c. (x : ℕ) → Mem x c → (is_local s k (x / 2) || is_shared s (x / 2)) ≡ true) (first_clauses s f n r k)
+  pub second : AllByRecursion (λ c. (x : ℕ) → Mem x c → is_local s k (x / 2) ≡ false) (second_clauses s k)
   pub apart : (j : ℕ) → is_shared s j ≡ true → is_local s k j ≡ false
 
 -- ---- the laws, of every legal sheet and its formulas
@@ -139,17 +139,17 @@ InclusionAlwaysTells =
 abbrev pub StartProper : Type 0
 StartProper =
     (l f : List ℕ) (n r : ℕ) → Legal l → Gates (sheet_of l) f n → Formula (sheet_of l) n r
-    → All (Proper (width (sheet_of l) + n)) (start_clauses (sheet_of l) f n r)
+    → AllByRecursion (Proper (width (sheet_of l) + n)) (start_clauses (sheet_of l) f n r)
 
 abbrev pub PathProper : Type 0
 PathProper =
     (l f : List ℕ) (n r k : ℕ) → Legal l → Gates (sheet_of l) f n → Formula (sheet_of l) n r
-    → All (Proper ((k + 2) * width (sheet_of l) + n)) (path_clauses (sheet_of l) f n r k)
+    → AllByRecursion (Proper ((k + 2) * width (sheet_of l) + n)) (path_clauses (sheet_of l) f n r k)
 
 abbrev pub InclusionProper : Type 0
 InclusionProper =
     (l f : List ℕ) (n p r : ℕ) → Legal l → Gates (sheet_of l) f n → Formula (sheet_of l) n p → Formula (sheet_of l) n r
-    → All (Proper (width (sheet_of l) + n)) (inclusion_clauses (sheet_of l) f n p r)
+    → AllByRecursion (Proper (width (sheet_of l) + n)) (inclusion_clauses (sheet_of l) f n p r)
 
 abbrev pub PathSides : Type 0
 PathSides =

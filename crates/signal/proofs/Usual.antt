@@ -1,6 +1,6 @@
 -- At plain bits a clause is the usual one, and at bits that may be unset it speaks of each assignment that completes them. Assumes nothing.
 use Rattle.std.proofs.Common.{◌≡◌, ℕ, zero, suc, ◌/◌, ◌%◌, ◌<◌, Bool, true, false, cond, not, ◌&&◌, eqb, List, [], ◌∷◌, get_or, Decides, sym, refl, ap, ◌∙◌, arith}
-use Rattle.std.specs.List.{AllByRecursion as All}
+use Rattle.std.specs.List.{AllByRecursion}
 use Rattle.std.proofs.lemmas.Bool.{not-true, or_parts, or_from}
 use Rattle.std.proofs.lemmas.Bool.Decides.{Decides-by_or, Decides-at, Decides-like}
 use Rattle.std.proofs.ByRecursion.{Decides-by_and}
@@ -105,7 +105,7 @@ module _ (numbers : List ℕ) where
       let y = literal_of tri_ops numbers l in
       zero_or_all (disjunction tri_ops x y) ls ∙ ap (λ b. b && all_zero ls) (zero_or x y) ∙ and_assoc (is_zero x) (is_zero y) (all_zero ls)
 
-  pub each_zero : (ls : List ℕ) → Decides (is_zero (clause_of tri_ops numbers ls)) (All (λ l. literal_of tri_ops numbers l ≡ Zero) ls)
+  pub each_zero : (ls : List ℕ) → Decides (is_zero (clause_of tri_ops numbers ls)) (AllByRecursion (λ l. literal_of tri_ops numbers l ≡ Zero) ls)
   each_zero ls =
       Decides-at _ _ (zero_or_all Zero ls)
       (Decides-by_and (λ l. is_zero (literal_of tri_ops numbers l)) (λ l. literal_of tri_ops numbers l ≡ Zero) all_zero (λ l. zero_decides _) refl (λ _ _. refl) ls)
@@ -113,7 +113,7 @@ module _ (numbers : List ℕ) where
   false_decides : (l : ℕ) → Decides (is_zero (literal_of tri_ops numbers l)) (False numbers l)
   false_decides l = false_at (get_or numbers (l / 2) 0) (l % 2) (omega arith)
 
-  pub each_false : (ls : List ℕ) → Decides (is_zero (clause_of tri_ops numbers ls)) (All (False numbers) ls)
+  pub each_false : (ls : List ℕ) → Decides (is_zero (clause_of tri_ops numbers ls)) (AllByRecursion (False numbers) ls)
   each_false ls =
       Decides-at _ _ (zero_or_all Zero ls)
       (Decides-by_and (λ l. is_zero (literal_of tri_ops numbers l)) (False numbers) all_zero false_decides refl (λ _ _. refl) ls)
@@ -122,7 +122,7 @@ module _ (numbers : List ℕ) where
   false_lit : (α : ℕ → Bool) → Completes numbers α → (l : ℕ) → False numbers l → lit α l ≡ false
   false_lit α completes l is = false_phase (l % 2) (α (l / 2)) (omega arith) (λ b same. completes (l / 2) b (is ∙ same))
 
-  false_holds : (α : ℕ → Bool) → Completes numbers α → (ls : List ℕ) → All (False numbers) ls → holds α ls ≡ false
+  false_holds : (α : ℕ → Bool) → Completes numbers α → (ls : List ℕ) → AllByRecursion (False numbers) ls → holds α ls ≡ false
   false_holds α completes [] all = refl
   false_holds α completes (l ∷ ls) all = or_from _ _ (false_lit α completes l all.0) (false_holds α completes ls all.1)
 
@@ -138,7 +138,7 @@ module _ (numbers : List ℕ) where
   filled_false : (l : ℕ) → lit (filled (eqb (l % 2) 0)) l ≡ false → False numbers l
   filled_false l h = filled_at (get_or numbers (l / 2) 0) (l % 2) (omega arith) h
 
-  all_false : (ls : List ℕ) → ((α : ℕ → Bool) → Completes numbers α → holds α ls ≡ false) → All (False numbers) ls
+  all_false : (ls : List ℕ) → ((α : ℕ → Bool) → Completes numbers α → holds α ls ≡ false) → AllByRecursion (False numbers) ls
   all_false [] none = tt
   all_false (l ∷ ls) none = (
     filled_false l (or_parts _ _ (none (filled (eqb (l % 2) 0)) (filled_completes _))).0,

@@ -1,6 +1,6 @@
 // Clauses under a whole assignment, and under a part of one.
 ghost use Rattle.std.specs.Prelude.{◌≡◌, ℕ, Bool, true, false, not, Decides};
-ghost use Rattle.std.specs.List.{AllByRecursion as All};
+ghost use Rattle.std.specs.List.{AllByRecursion};
 ghost use Rattle.lists.specs.Counted.{counted};
 ghost use Rattle.signal.specs.Circuit.{literal_of, clause_of};
 ghost use Rattle.signal.specs.Kinds.{tri_ops, may_tri};
@@ -21,8 +21,8 @@ pub fn satisfies_clause(numbers: &[u32], literals: &[u32]) -> bool
 // Whether the clause is false already, whatever the variables that the numbers leave unset will be.
 pub fn falsifies_clause(numbers: &[u32], literals: &[u32]) -> bool
     ensures is_only_zero { result ≡ not (may_tri (clause_of tri_ops (counted numbers.now) (counted literals.now)) 0 true) }
-    ensures when_each_literal_is_zero { Decides result (All (λ l. literal_of tri_ops (counted numbers.now) l ≡ Zero) (counted literals.now)) }
-    ensures when_each_literal_is_false { Decides result (All (False (counted numbers.now)) (counted literals.now)) }
+    ensures when_each_literal_is_zero { Decides result (AllByRecursion (λ l. literal_of tri_ops (counted numbers.now) l ≡ Zero) (counted literals.now)) }
+    ensures when_each_literal_is_false { Decides result (AllByRecursion (False (counted numbers.now)) (counted literals.now)) }
     ensures when_no_completion_satisfies { Decides result ((α : ℕ → Bool) → Completes (counted numbers.now) α → holds α (counted literals.now) ≡ false) }
 {
     clause_value::<Tri>(numbers, literals) == Tri::Zero

@@ -1,5 +1,5 @@
 use Rattle.checker.proofs.Keeping.{restored_by}
-use Rattle.checker.proofs.lists.restore.Goals as goal
+use Rattle.checker.proofs.lent.restore.Goals as goal
 
 pub returns : goal.returns
 returns c =

@@ -1,5 +1,5 @@
 use Rattle.checker.proofs.Keeping.{said_by}
-use Rattle.checker.proofs.lists.said_part.Goals as goal
+use Rattle.checker.proofs.lent.said_part.Goals as goal
 
 pub returns : goal.returns
 returns c =
