@@ -1,16 +1,12 @@
 #!/bin/sh
-# Runs the program `check`, as it was built, on every example sheet, and compares the first line of what it says, its verdict,
-# with sheets/answers.txt. Says nothing if all is as it should be; else it says what differs, and ends with status 1.
+# Runs the program `check_sheet`, as `rt ci` built it, on every example sheet, and compares its first line with sheets/answers.txt.
+# Says nothing if all is as it should be; else it says what differs, and ends with status 1.
 set -eu
 cd "$(dirname "$0")/.."
 while IFS=: read -r sheet answer; do
-    if ! text=$(target/bin/check <"$sheet"); then
-        echo "$sheet: check failed" >&2
-        exit 1
-    fi
-    said=$(printf '%s\n' "$text" | head -n 1)
+    said=$(crates/check_sheet/out/check_sheet <"$sheet" | head -n 1)
     if [ " $said" != "$answer" ]; then
-        echo "$sheet: check said '$said', and sheets/answers.txt has '$answer'" >&2
+        echo "$sheet: check_sheet said '$said', and sheets/answers.txt has '$answer'" >&2
         exit 1
     fi
 done <sheets/answers.txt

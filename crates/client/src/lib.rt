@@ -1,10 +1,8 @@
 // Uses each state of a check as it is meant to be used.
-use checker::Asked;
-use checker::Ended;
-use checker::Moved;
-use checker::Refused;
-use checker::Weighed;
+#![tactic(auto)]
+
 use checker::report::Report;
+use checker::{Asked, Ended, Moved, Refused, Weighed};
 use sheet::fault::Fault;
 
 pub fn weigh_and_take(
