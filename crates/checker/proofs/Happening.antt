@@ -55,7 +55,7 @@ at_first = 2 ∷ 3 ∷ 0 ∷ 7 ∷ 8 ∷ 9 ∷ 10 ∷ 1 ∷ 3 ∷ 2 ∷ []
 abbrev not_both : List ℕ
 not_both = 1 ∷ 2 ∷ 1 ∷ 1 ∷ []
 
--- ---- `stays-clear`: the interpolant is the start formula
+-- ---- `stays_clear`: the interpolant is the start formula
 abbrev safe_path : List ℕ
 safe_path = 4 ∷ 6 ∷ 4 ∷ 10 ∷ 11 ∷ 13 ∷ 15 ∷ 16 ∷ 17 ∷ 18 ∷ 1 ∷ 0 ∷ 7 ∷ 1 ∷ 6 ∷ 3 ∷ 5 ∷ 6 ∷ []
 
@@ -93,7 +93,7 @@ ends_short_of_values =
     refuted safe_refutation (zeros 4) (3 ∷ 4 ∷ 4 ∷ 0 ∷ []) (is-over (over (Short LineValues) 0 2)) (lists [] (zeros 7) (zeros 18))
     (clear_path (zeros 7)) refl refl
 
--- ---- `turns-over`: set after one step
+-- ---- `turns_over`: set after one step
 abbrev run_path : List ℕ
 run_path = 4 ∷ 6 ∷ 4 ∷ 10 ∷ 11 ∷ 13 ∷ 15 ∷ 16 ∷ 17 ∷ 18 ∷ 1 ∷ 3 ∷ 7 ∷ 2 ∷ 6 ∷ 3 ∷ 5 ∷ 6 ∷ []
 
@@ -107,13 +107,13 @@ ends_run =
     (opens [] [] (zeros 18) safe₀ [] (at_first ++ zeros 8) refl) refl refl)
     refl
 
--- ---- `keeps-its-bit`: one answer is all
+-- ---- `keeps_its_bit`: one answer is all
 ends_spent : Series keeps_its_bit 0 1 (at_ended (over Spent 0 1) []) (lists [] [] at_first) 1
 ends_spent =
     refuted not_both (zeros 2) (2 ∷ 2 ∷ []) (is-over (over Spent 0 1)) (lists [] [] at_first)
     (opens [] [] (zeros 10) (asked 0 1 Start 10 0 clear clear 0) [] at_first refl) refl refl
 
--- ---- `takes-the-input`: room for the start question alone
+-- ---- `takes_the_input`: room for the start question alone
 abbrev input_first : List ℕ
 input_first = 3 ∷ 3 ∷ 0 ∷ 7 ∷ 8 ∷ 9 ∷ 10 ∷ 1 ∷ 5 ∷ 4 ∷ []
 
@@ -122,7 +122,7 @@ ends_short_of_question =
     refuted (1 ∷ 2 ∷ 1 ∷ 2 ∷ []) (zeros 2) (2 ∷ 2 ∷ []) (is-over (over (Short Question) 0 1)) (lists [] [] (zeros 10))
     (opens [] [] (zeros 10) (asked 0 10 Start 10 0 (region 5 0) (region 5 0) 0) [] input_first refl) refl refl
 
--- ---- `take-the-second`: the start formula has a gate, node 3, of both latches clear
+-- ---- `take_the_second`: the start formula has a gate, node 3, of both latches clear
 abbrev both_clear : Region
 both_clear = region 6 1
 
