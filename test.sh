@@ -19,6 +19,6 @@ if ! grep '^rt: ok' "$tmp/said" | grep -qv ', [0-9][0-9]* bad'; then
     echo "rt ci's line 'rt: ok' counts bad edits: each edit is to be refused for what it means" >&2
     exit 1
 fi
-sh tools/compare-sheets.sh
-sh tools/compare-verdicts.sh
+sh tools/compare-sheets.sh check_sheet sheets/answers.txt
+sh tools/compare-sheets.sh verdict sheets/verdicts.txt
 sh tools/refused-clients.sh

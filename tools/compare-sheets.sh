@@ -1,18 +1,25 @@
 #!/bin/sh
-# Runs the program `check_sheet`, as `rt ci` built it, on every example sheet, and compares its first line with sheets/answers.txt.
+# Runs a program, as `rt ci` built it, on every example sheet, and compares the first line of what it says with a file that has a line
+# for each sheet: sh tools/compare-sheets.sh PROGRAM FILE
 # Says nothing if all is as it should be; else it says what differs, and ends with status 1.
 set -eu
 cd "$(dirname "$0")/.."
+program=$1
+answers=$2
 while IFS=: read -r sheet answer; do
-    said=$(crates/check_sheet/out/check_sheet <"$sheet" | head -n 1)
-    if [ " $said" != "$answer" ]; then
-        echo "$sheet: check_sheet said '$said', and sheets/answers.txt has '$answer'" >&2
+    if ! text=$("crates/$program/out/$program" <"$sheet"); then
+        echo "$sheet: $program failed" >&2
         exit 1
     fi
-done <sheets/answers.txt
+    said=$(printf '%s\n' "$text" | head -n 1)
+    if [ " $said" != "$answer" ]; then
+        echo "$sheet: $program said '$said', and $answers has '$answer'" >&2
+        exit 1
+    fi
+done <"$answers"
 for sheet in sheets/*.sheet crates/tour/data/*.sheet; do
-    if ! grep -q "^$sheet: " sheets/answers.txt; then
-        echo "$sheet has no line in sheets/answers.txt" >&2
+    if ! grep -q "^$sheet: " "$answers"; then
+        echo "$sheet has no line in $answers" >&2
         exit 1
     fi
 done
