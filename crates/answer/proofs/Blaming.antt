@@ -3,6 +3,8 @@ use Rattle.std.proofs.Common.{◌≡◌, ℕ, zero, suc, ◌+◌, ◌-◌, ◌<�
 use Rattle.std.proofs.lemmas.List.{nil_from_length}
 use Rattle.std.proofs.lemmas.Bool.{cond-true, cond-false, lt-ltb, le-ltb, lt-leb, leb-false, eqb-true, eqb-false, and_from, and_parts, not_from_false, both_ways, cases_Bool, cases_lt}
 use Rattle.sheet.specs.Faults.{and_then, demand}
+use Rattle.sheet.specs.declared.fault.Cause.{Cause}
+use Rattle.sheet.specs.declared.fault.Cause.TheVariants.{NotWhole, LaterLine, PivotNotOpposed, Clash, WorkTooShort, NotEmpty}
 use Rattle.sheet.specs.declared.fault.Fault.{Fault}
 use Rattle.sheet.specs.declared.fault.Layer.TheVariants.{Refutation}
 use Rattle.question.specs.Questions.{clause_count, span}
@@ -27,13 +29,13 @@ false_from b h = ⊎_elim (λ e. absurd (h e)) (λ e. e) (cases_Bool b)
 
 -- ---- the four checks of a step
 data Stops (a b c d : Bool) (i : ℕ) (f : Fault) : Type 0 where
-  at_42 : a ≡ false → refused 42 i ≡ f → Stops a b c d i f
-  at_43 : a ≡ true → b ≡ false → refused 43 i ≡ f → Stops a b c d i f
-  at_44 : a ≡ true → b ≡ true → c ≡ true → refused 44 i ≡ f → Stops a b c d i f
-  at_45 : a ≡ true → b ≡ true → c ≡ false → d ≡ false → refused 45 i ≡ f → Stops a b c d i f
+  at_42 : a ≡ false → refused LaterLine i ≡ f → Stops a b c d i f
+  at_43 : a ≡ true → b ≡ false → refused PivotNotOpposed i ≡ f → Stops a b c d i f
+  at_44 : a ≡ true → b ≡ true → c ≡ true → refused Clash i ≡ f → Stops a b c d i f
+  at_45 : a ≡ true → b ≡ true → c ≡ false → d ≡ false → refused WorkTooShort i ≡ f → Stops a b c d i f
 
 stops : {X : Type 0} (a b c d : Bool) (i : ℕ) (x : X) (f : Fault) →
-    and_then (demand a (refused 42 i) (demand b (refused 43 i) (demand (not c) (refused 44 i) (Ok (tt {0}))))) (λ _. demand d (refused 45 i) (Ok x)) ≡ Err f →
+    and_then (demand a (refused LaterLine i) (demand b (refused PivotNotOpposed i) (demand (not c) (refused Clash i) (Ok (tt {0}))))) (λ _. demand d (refused WorkTooShort i) (Ok x)) ≡ Err f →
     Stops a b c d i f
 stops {X} false b c d i x f h = at_42 refl (err_same {X = X} _ f h)
 stops {X} true false c d i x f h = at_43 refl refl (err_same {X = X} _ f h)
@@ -87,7 +89,7 @@ module _ (q t : List ℕ) (n : ℕ) (proper : Proper q) where
     fits = leb (end_after q w here at) (length w)
 
     abbrev room_next : Unit {0} → Result Progress Fault
-    room_next u = demand fits (refused 45 at.step) (Ok (onward at (end_after q w here at)))
+    room_next u = demand fits (refused WorkTooShort at.step) (Ok (onward at (end_after q w here at)))
 
     -- ---- a reason for the step, by the clauses d, is what stops it
     module _ (d : ℕ → List ℕ) (same : (j : ℕ) → j < at.step → span w j ≡ d j) where
@@ -109,18 +111,18 @@ module _ (q t : List ℕ) (n : ℕ) (proper : Proper q) where
           subst (λ v. Clashes (line_of q d here.first) v here.pivot) (sym (line_is here.second b.1))
           (subst (λ v. Clashes v other here.pivot) (sym (line_is here.first b.0)) o)
 
-      stopped : (m : ℕ) → WrongStep q t n d m at.step → advanced q w here at ≡ Err (refused m at.step)
+      stopped : (m : Cause) → WrongStep q t n d m at.step → advanced q w here at ≡ Err (refused m at.step)
       stopped m (not_earlier e never) =
           ap (λ r. and_then r room_next) (cond-false _ _ _ (false_from (come_before q at.step here) (λ h. never (before_from q at.step here h))))
-          ∙ fault_at Refutation 42 m at.step at.step e refl
+          ∙ fault_at Refutation LaterLine m at.step at.step e refl
       stopped m (no_pivot e b never) =
           ap (λ r. and_then r room_next)
           (cond-true _ _ _ (before_to q at.step here b)
           ∙ cond-false _ _ _ (false_from (opposes one other here.pivot)
           (λ h. let k = and_parts _ _ h in never (opposes_back b (has_mem _ one k.0, has_mem _ other k.1)))))
-          ∙ fault_at Refutation 43 m at.step at.step e refl
+          ∙ fault_at Refutation PivotNotOpposed m at.step at.step e refl
       stopped m (clash e c) =
-          step_refused q t s n proper w at laid steps less d same c ∙ fault_at Refutation 44 m at.step at.step e refl
+          step_refused q t s n proper w at laid steps less d same c ∙ fault_at Refutation Clash m at.step at.step e refl
       stopped m (no_room e makes never) =
           let is : clause ≡ d at.step = clause_is q t s n proper w at laid steps less d same makes in
           let long : length w < end_after q w here at =
@@ -130,7 +132,7 @@ module _ (q t : List ℕ) (n : ℕ) (proper : Proper q) where
           (cases_lt (length w) (end_after q w here at)) in
           ap (λ r. and_then r room_next) (step_suited q t s n proper w at laid steps less d same makes)
           ∙ cond-false _ _ _ (lt-leb _ _ long)
-          ∙ fault_at Refutation 45 m at.step at.step e refl
+          ∙ fault_at Refutation WorkTooShort m at.step at.step e refl
 
     -- ---- what stops the step is a reason, by the clauses so far and the one that it would make
     abbrev grown : ℕ → List ℕ
@@ -143,7 +145,7 @@ module _ (q t : List ℕ) (n : ℕ) (proper : Proper q) where
     grown_here = sym (cond-false _ _ _ (le-ltb at.step at.step (omega arith)))
 
     abbrev Because : Fault → Type 0
-    Because f = (f.layer ≡ Refutation) × (f.place ≡ at.step) × WrongStep q t n grown f.number at.step
+    Because f = (f.layer ≡ Refutation) × (f.place ≡ at.step) × WrongStep q t n grown f.cause at.step
 
     opposed_from : opposes one other here.pivot ≡ true → Opposes one other here.pivot
     opposed_from h = let k = and_parts _ _ h in (has_mem _ one k.0, has_mem _ other k.1)
@@ -191,11 +193,11 @@ module _ (q t : List ℕ) (n : ℕ) (proper : Proper q) where
               (λ room. omega (arith, room, long, laid.sum, laid.size, ap length grown_here, total_same (span w) grown at.step grown_same, total_next grown at.step)),
         )
 
-    step_why : Whole t → (f : Fault) → advanced q w here at ≡ Err f → (f.layer ≡ Refutation) × NotRefuting q t n f.number f.place
+    step_why : Whole t → (f : Fault) → advanced q w here at ≡ Err f → (f.layer ≡ Refutation) × NotRefuting q t n f.cause f.place
     step_why whole f h =
         let (layer, place, wrong) = because f (stops _ _ _ _ at.step _ f h) in (
           layer,
-          subst (NotRefuting q t n f.number) (sym place) (wrong_step grown (right_so_far w at laid steps grown grown_same whole) less wrong),
+          subst (NotRefuting q t n f.cause) (sym place) (wrong_step grown (right_so_far w at laid steps grown grown_same whole) less wrong),
         )
 
   -- ---- a whole run
@@ -203,12 +205,12 @@ module _ (q t : List ℕ) (n : ℕ) (proper : Proper q) where
   and_then_err (Ok x) k f h = inr (x, refl, h)
   and_then_err {X} {Y} (Err e) k f h = inl (ap Err (err_same {X = Y} e f h))
 
-  finished_err : (w : List ℕ) (at : Progress) (b : Bool) (f : Fault) → demand b (refused 46 (at.step - 1)) (Ok w) ≡ Err f → (b ≡ false) × (refused 46 (at.step - 1) ≡ f)
+  finished_err : (w : List ℕ) (at : Progress) (b : Bool) (f : Fault) → demand b (refused NotEmpty (at.step - 1)) (Ok w) ≡ Err f → (b ≡ false) × (refused NotEmpty (at.step - 1) ≡ f)
   finished_err w at true f h = let z : ◌≡◌ {A = ℕ} 0 1 = cc in absurd (omega arith)
   finished_err w at false f h = (refl, err_same {X = List ℕ} _ f h)
 
   abbrev Why : Fault → Type 0
-  Why f = (f.layer ≡ Refutation) × NotRefuting q t n f.number f.place
+  Why f = (f.layer ≡ Refutation) × NotRefuting q t n f.cause f.place
 
   run_why : Whole t → (m : ℕ) (w : List ℕ) (at : Progress) → m + at.step ≡ s → Laid s n w at → MakesAll q t at.step (span w) → (f : Fault) →
       run q t m w at ≡ Err f → Why f
@@ -233,7 +235,7 @@ module _ (q t : List ℕ) (n : ℕ) (proper : Proper q) where
       run_why whole m (noted q w (step_of t at.step) at) next (omega (arith, step)) on.0 on.1 f k.2)
       (and_then_err (advanced q w (step_of t at.step) at) _ f h)
 
-  outcome_err : (b : Bool) → is_whole t ≡ b → (f : Fault) → demand b (refused 41 0) (run q t s (opened n s) (start s)) ≡ Err f → Why f
+  outcome_err : (b : Bool) → is_whole t ≡ b → (f : Fault) → demand b (refused NotWhole 0) (run q t s (opened n s) (start s)) ≡ Err f → Why f
   outcome_err true is f h =
       run_why (whole_from t is) s (opened n s) (start s) (omega arith) (laid_none s n) (λ j l. absurd (omega arith)) f h
   outcome_err false is f h =
@@ -248,9 +250,9 @@ module _ (q t : List ℕ) (n : ℕ) (proper : Proper q) where
       let same : i - 1 + 1 ≡ i = omega arith in omega (arith, right.room (i - 1) (omega arith), ap (total d) same)
 
   -- and what has a reason is refused for it
-  pub why_outcome : (m i : ℕ) → NotRefuting q t n m i → outcome q t n ≡ Err (refused m i)
+  pub why_outcome : (m : Cause) (i : ℕ) → NotRefuting q t n m i → outcome q t n ≡ Err (refused m i)
   why_outcome m i (not_whole e z never) =
-      cond-false _ _ _ (false_from (is_whole t) (λ h. never (whole_from t h))) ∙ fault_at Refutation 41 m 0 i e z
+      cond-false _ _ _ (false_from (is_whole t) (λ h. never (whole_from t h))) ∙ fault_at Refutation NotWhole m 0 i e z
   why_outcome m i (wrong_step d right among wrong) =
       let f = follow q t s n proper d i (omega arith) right.makes (room_so_far d i right) in
       let less : f.at.step < s = omega (arith, f.reaches) in
@@ -271,4 +273,4 @@ module _ (q t : List ℕ) (n : ℕ) (proper : Proper q) where
       ∙ ap (λ k. run q t k f.list f.at) none
       ∙ cond-false _ _ _ (false_from (eqb (length (span f.list (f.at.step - 1))) 0)
       (λ h. never (sym is ∙ nil_from_length _ (eqb-true _ 0 h))))
-      ∙ fault_at Refutation 46 m (f.at.step - 1) i e (sym last)
+      ∙ fault_at Refutation NotEmpty m (f.at.step - 1) i e (sym last)

@@ -2,6 +2,8 @@
 use Rattle.std.proofs.Common.{◌≡◌, ℕ, zero, suc, ◌+◌, ◌<◌, ◌≤◌, Bool, true, false, cond, eqb, ltb, List, [], ◌∷◌, length, get_or, Some, None, Ok, Err, Option, Result, sym, refl, ap, ◌∙◌, subst, ⊎_elim, arith}
 use Rattle.std.proofs.lemmas.Bool.{cond-true, cond-false, lt-ltb, le-ltb, ltb-true, ltb-false, eqb-true, eqb-false, eq-eqb, ne_eqb, cases_lt, cases_eq}
 use Rattle.sheet.specs.Faults.{fault, and_then, demand}
+use Rattle.sheet.specs.declared.fault.Cause.{Cause}
+use Rattle.sheet.specs.declared.fault.Cause.TheVariants.{WrongCount, NotABit, FalseClause}
 use Rattle.sheet.specs.declared.fault.Fault.{Fault}
 use Rattle.sheet.specs.declared.fault.Layer.{Layer}
 use Rattle.sheet.specs.declared.fault.Layer.TheVariants.{Assignment}
@@ -16,14 +18,14 @@ pub err_same : {X : Type 0} (f g : Fault) → ◌≡◌ {A = Result X Fault} (Er
 err_same f g h = cc
 
 -- where each refusal has a reason, and each reason is of the refusal
-pub reasoned_by : (y : Layer) (R : ℕ → ℕ → Type 0) (r : Result (Unit {0}) Fault) →
-    ((f : Fault) → r ≡ Err f → (f.layer ≡ y) × R f.number f.place) → ((n i : ℕ) → R n i → r ≡ Err (fault y n i)) → Reasoned y R r
+pub reasoned_by : (y : Layer) (R : Cause → ℕ → Type 0) (r : Result (Unit {0}) Fault) →
+    ((f : Fault) → r ≡ Err f → (f.layer ≡ y) × R f.cause f.place) → ((n : Cause) (i : ℕ) → R n i → r ≡ Err (fault y n i)) → Reasoned y R r
 reasoned_by y R (Ok u) from to = λ n i h. let e : Ok u ≡ Err (fault y n i) = to n i h in let z : ◌≡◌ {A = ℕ} 0 1 = cc in omega arith
 reasoned_by y R (Err f) from to =
     let k = from f refl in
-    (k.0, k.1, λ n i h. let e = err_same (fault y n i) f (sym (to n i h)) in (ap (λ g. g.number) e, ap (λ g. g.place) e))
+    (k.0, k.1, λ n i h. let e = err_same (fault y n i) f (sym (to n i h)) in (ap (λ g. g.cause) e, ap (λ g. g.place) e))
 
-pub fault_at : {X : Type 0} (y : Layer) (a n b i : ℕ) → n ≡ a → i ≡ b → ◌≡◌ {A = Result X Fault} (Err (fault y a b)) (Err (fault y n i))
+pub fault_at : {X : Type 0} (y : Layer) (a n : Cause) (b i : ℕ) → n ≡ a → i ≡ b → ◌≡◌ {A = Result X Fault} (Err (fault y a b)) (Err (fault y n i))
 fault_at y a n b i e z = rw (e, z) refl
 
 -- ---- the first number that is no bit
@@ -136,49 +138,49 @@ module _ (q numbers : List ℕ) where
   clauses = lowest_false q (bits_of numbers) 0 (clause_count q)
 
   abbrev Why : Fault → Type 0
-  Why f = (f.layer ≡ Assignment) × NotSatisfying q numbers f.number f.place
+  Why f = (f.layer ≡ Assignment) × NotSatisfying q numbers f.cause f.place
 
   why_from : (f g : Fault) → g ≡ f → Why g → Why f
   why_from f g e h = subst Why e h
 
-  clause_why : (whole : length numbers ≡ variable_count q) → bits ≡ None → (o : Option ℕ) → clauses ≡ o → (f : Fault) → unless_found 33 o ≡ Err f → Why f
+  clause_why : (whole : length numbers ≡ variable_count q) → bits ≡ None → (o : Option ℕ) → clauses ≡ o → (f : Fault) → unless_found FalseClause o ≡ Err f → Why f
   clause_why whole b None is f h = let z : ◌≡◌ {A = ℕ} 0 1 = cc in absurd (omega arith)
   clause_why whole b (Some i) is f h =
       let k = lowest_found q (bits_of numbers) 0 (clause_count q) i is in
-      why_from f (fault Assignment 33 i) (err_same {X = Unit {0}} _ f h) (
+      why_from f (fault Assignment FalseClause i) (err_same {X = Unit {0}} _ f h) (
         refl,
         false_clause refl (omega (arith, k.high)) (record { whole = whole; bits = λ j l. bits_none 0 numbers b j (omega arith) })
             (λ j l. k.before j (omega arith) l) k.here,
       )
 
-  bit_why : (whole : length numbers ≡ variable_count q) → (o : Option ℕ) → bits ≡ o → (f : Fault) → and_then (unless_found 32 o) (λ _. unless_found 33 clauses) ≡ Err f → Why f
+  bit_why : (whole : length numbers ≡ variable_count q) → (o : Option ℕ) → bits ≡ o → (f : Fault) → and_then (unless_found NotABit o) (λ _. unless_found FalseClause clauses) ≡ Err f → Why f
   bit_why whole None is f h = clause_why whole is clauses refl f h
   bit_why whole (Some i) is f h =
       let (j, same, k) = first_found 0 numbers i is in
       let e : i ≡ j = omega arith in
-      why_from f (fault Assignment 32 i) (err_same {X = Unit {0}} _ f h) (
+      why_from f (fault Assignment NotABit i) (err_same {X = Unit {0}} _ f h) (
         refl,
         no_bit refl (omega (arith, k.within)) (record { whole = whole; bits = λ m l. k.before m (omega arith) })
             (λ b. k.here (subst (λ v. Bit (get_or numbers v 0)) e b)),
       )
 
   refusal_why : (b : Bool) → eqb (length numbers) (variable_count q) ≡ b → (f : Fault) →
-      demand b (fault Assignment 31 0) (and_then (unless_found 32 bits) (λ _. unless_found 33 clauses)) ≡ Err f → Why f
+      demand b (fault Assignment WrongCount 0) (and_then (unless_found NotABit bits) (λ _. unless_found FalseClause clauses)) ≡ Err f → Why f
   refusal_why true is f h = bit_why (eqb-true _ _ is) bits refl f h
-  refusal_why false is f h = why_from f (fault Assignment 31 0) (err_same {X = Unit {0}} _ f h) (refl, not_as_many refl refl (eqb-false _ _ is))
+  refusal_why false is f h = why_from f (fault Assignment WrongCount 0) (err_same {X = Unit {0}} _ f h) (refl, not_as_many refl refl (eqb-false _ _ is))
 
-  why_refusal : (n i : ℕ) → NotSatisfying q numbers n i → judged q numbers ≡ Err (fault Assignment n i)
-  why_refusal n i (not_as_many e z many) = cond-false _ _ _ (ne_eqb _ _ many) ∙ fault_at Assignment 31 n 0 i e z
+  why_refusal : (n : Cause) (i : ℕ) → NotSatisfying q numbers n i → judged q numbers ≡ Err (fault Assignment n i)
+  why_refusal n i (not_as_many e z many) = cond-false _ _ _ (ne_eqb _ _ many) ∙ fault_at Assignment WrongCount n 0 i e z
   why_refusal n i (no_bit e l before here) =
       let zero_and : 0 + i ≡ i = omega arith in
       cond-true _ _ _ (eq-eqb _ _ before.whole)
-      ∙ ap (λ o. and_then (unless_found 32 o) (λ _. unless_found 33 clauses)) (found_first 0 numbers i (omega (arith, before.whole)) before.bits here ∙ ap Some zero_and)
-      ∙ fault_at Assignment 32 n i i e refl
+      ∙ ap (λ o. and_then (unless_found NotABit o) (λ _. unless_found FalseClause clauses)) (found_first 0 numbers i (omega (arith, before.whole)) before.bits here ∙ ap Some zero_and)
+      ∙ fault_at Assignment NotABit n i i e refl
   why_refusal n i (false_clause e l before above here) =
       cond-true _ _ _ (eq-eqb _ _ before.whole)
-      ∙ ap (λ o. and_then (unless_found 32 o) (λ _. unless_found 33 clauses)) (none_bits 0 numbers (λ j b. before.bits j (omega (arith, before.whole))))
-      ∙ ap (unless_found 33) (found_lowest q (bits_of numbers) 0 (clause_count q) i (omega arith) (omega arith) above here)
-      ∙ fault_at Assignment 33 n i i e refl
+      ∙ ap (λ o. and_then (unless_found NotABit o) (λ _. unless_found FalseClause clauses)) (none_bits 0 numbers (λ j b. before.bits j (omega (arith, before.whole))))
+      ∙ ap (unless_found FalseClause) (found_lowest q (bits_of numbers) 0 (clause_count q) i (omega arith) (omega arith) above here)
+      ∙ fault_at Assignment FalseClause n i i e refl
 
   pub judged_reasoned : (r : Result (Unit {0}) Fault) → r ≡ judged q numbers → AssignmentReasoned q numbers r
   judged_reasoned r is =

@@ -4,6 +4,8 @@ use Rattle.std.specs.List.{AllByRecursion}
 use Rattle.std.proofs.lemmas.List.{take_all, drop_more, drop_all}
 use Rattle.std.proofs.lemmas.Bool.{cond-true, cond-false, lt-ltb, le-ltb, ltb-true, eqb-true, eq-eqb, cases_eq}
 use Rattle.sheet.specs.Faults.{and_then, demand}
+use Rattle.sheet.specs.declared.fault.Cause.{Cause}
+use Rattle.sheet.specs.declared.fault.Cause.TheVariants.{NotABit, FalseClause}
 use Rattle.sheet.specs.declared.fault.Fault.{Fault}
 use Rattle.lists.specs.Counted.{counted}
 use Rattle.signal.specs.Truth.{holds, bits_of}
@@ -83,11 +85,11 @@ module _ (q : List ℕ) (α : ℕ → Bool) where
   all_to k zero h = refl
   all_to k (suc n) h = cond-true _ _ _ (h k (omega arith)) ∙ all_to (k + 1) n (λ j l. h j (omega arith))
 
-found_none : (n : ℕ) (o : Option ℕ) → is_ok (unless_found n o) ≡ true → o ≡ None
+found_none : (n : Cause) (o : Option ℕ) → is_ok (unless_found n o) ≡ true → o ≡ None
 found_none n None h = refl
 found_none n (Some i) h = let z : ◌≡◌ {A = ℕ} 0 1 = cc in absurd (omega arith)
 
-passes : (b : Bool) (e : Fault) (n m : ℕ) (o p : Option ℕ) →
+passes : (b : Bool) (e : Fault) (n m : Cause) (o p : Option ℕ) →
     is_ok (demand b e (and_then (unless_found n o) (λ _. unless_found m p))) ≡ true → (b ≡ true) × (o ≡ None) × (p ≡ None)
 passes true e n m None p h = (refl, refl, found_none m p h)
 passes true e n m (Some i) p h = let z : ◌≡◌ {A = ℕ} 0 1 = cc in absurd (omega arith)
@@ -96,7 +98,7 @@ passes false e n m o p h = let z : ◌≡◌ {A = ℕ} 0 1 = cc in absurd (omega
 pub judged_means : (q numbers : List ℕ) (r : Result (Unit {0}) Fault) → r ≡ judged q numbers → Decides (is_ok r) (Satisfying q numbers)
 judged_means q numbers r is = (
   λ h.
-      let k = passes (eqb (length numbers) (variable_count q)) _ 32 33 (first_non_bit 0 numbers) (lowest_false q (bits_of numbers) 0 (clause_count q)) (ap is_ok (sym is) ∙ h) in
+      let k = passes (eqb (length numbers) (variable_count q)) _ NotABit FalseClause (first_non_bit 0 numbers) (lowest_false q (bits_of numbers) 0 (clause_count q)) (ap is_ok (sym is) ∙ h) in
       record {
         whole = eqb-true _ _ k.0;
         bits = bits_from 0 numbers k.1;
@@ -105,6 +107,6 @@ judged_means q numbers r is = (
   λ s.
       ap is_ok is
       ∙ ap is_ok (cond-true _ _ _ (eq-eqb _ _ s.whole))
-      ∙ ap (λ o. is_ok (and_then (unless_found 32 o) (λ _. unless_found 33 (lowest_false q (bits_of numbers) 0 (clause_count q))))) (bits_to 0 numbers s.bits)
-      ∙ ap (λ o. is_ok (unless_found 33 o)) (all_to q (bits_of numbers) 0 (clause_count q) (λ j l. s.clauses j (omega arith))),
+      ∙ ap (λ o. is_ok (and_then (unless_found NotABit o) (λ _. unless_found FalseClause (lowest_false q (bits_of numbers) 0 (clause_count q))))) (bits_to 0 numbers s.bits)
+      ∙ ap (λ o. is_ok (unless_found FalseClause o)) (all_to q (bits_of numbers) 0 (clause_count q) (λ j l. s.clauses j (omega arith))),
 )

@@ -3,6 +3,7 @@ use Rattle.std.proofs.Common.{◌≡◌, ℕ, zero, suc, ◌+◌, ◌-◌, ◌<�
 use Rattle.std.proofs.lemmas.List.{nil_from_length}
 use Rattle.std.proofs.lemmas.Bool.{cond-true, cond-false, cond_both, lt-ltb, le-leb, eq-eqb, ltb-true, leb-true, eqb-true, and_from, and_parts, not_from_true, cases_lt}
 use Rattle.sheet.specs.Faults.{and_then, demand}
+use Rattle.sheet.specs.declared.fault.Cause.TheVariants.{NotWhole, Clash, WorkTooShort}
 use Rattle.sheet.specs.declared.fault.Fault.{Fault}
 use Rattle.question.specs.Questions.{clause_count, span, Clause}
 use Rattle.answer.specs.Joint.{clashing}
@@ -114,7 +115,7 @@ module _ (q t : List ℕ) (s n : ℕ) (proper : Proper q) (w : List ℕ) (at : P
 
       pub step_taken : at.end + length (d at.step) ≤ length w → advanced q w here at ≡ Ok (onward at (at.end + length (d at.step)))
       step_taken room =
-          let next : ℕ → Result Progress Fault = λ e. demand (leb e (length w)) (refused 45 at.step) (Ok (onward at e)) in
+          let next : ℕ → Result Progress Fault = λ e. demand (leb e (length w)) (refused WorkTooShort at.step) (Ok (onward at e)) in
           ap (λ r. and_then r (λ _. next (at.end + length clause))) step_suited
           ∙ ap (λ v. next (at.end + length v)) clause_is
           ∙ cond-true _ _ _ (le-leb _ _ room)
@@ -128,7 +129,7 @@ module _ (q t : List ℕ) (s n : ℕ) (proper : Proper q) (w : List ℕ) (at : P
           (cases_lt j at.step)
 
     -- a step that would cancel another variable besides its pivot is refused
-    pub step_refused : ClashesAt q d at.step here → advanced q w here at ≡ Err (refused 44 at.step)
+    pub step_refused : ClashesAt q d at.step here → advanced q w here at ≡ Err (refused Clash at.step)
     step_refused c =
         let xs : List ℕ = line_before q w at.end here.first in
         let ys : List ℕ = line_before q w at.end here.second in
@@ -140,11 +141,11 @@ module _ (q t : List ℕ) (s n : ℕ) (proper : Proper q) (w : List ℕ) (at : P
         subst (λ v. Clashes xs v here.pivot) other (subst (λ v. Clashes v (line_of q d here.second) here.pivot) one c.clashes) in
         let loud : clashing xs ys here.pivot ≡ true =
         clashing_from xs ys here.pivot (front_proper here.first c.earlier.0) (front_proper here.second c.earlier.1) clash in
-        let stops : suited q w here at ≡ Err (refused 44 at.step) =
+        let stops : suited q w here at ≡ Err (refused Clash at.step) =
         cond-true _ _ _ (before_to q at.step here c.earlier)
         ∙ cond-true _ _ _ (and_from _ _ (mem_has _ xs opposed.0) (mem_has _ ys opposed.1))
         ∙ cond-false _ _ _ (not_from_true _ loud) in
-        ap (λ r. and_then r (λ _. demand (leb (end_after q w here at) (length w)) (refused 45 at.step) (Ok (onward at (end_after q w here at))))) stops
+        ap (λ r. and_then r (λ _. demand (leb (end_after q w here at) (length w)) (refused WorkTooShort at.step) (Ok (onward at (end_after q w here at))))) stops
 
 -- ---- the run follows a derivation as far as that goes
 pub record Followed (q t : List ℕ) (s n : ℕ) (d : ℕ → List ℕ) (i : ℕ) : Type 0 where
@@ -243,7 +244,7 @@ module _ (q t : List ℕ) (n : ℕ) where
 
   module _ (v : List ℕ) (ok : outcome q t n ≡ Ok v) where
     parts : (is_whole t ≡ true) × (run q t s (opened n s) (start s) ≡ Ok v)
-    parts = demanded (is_whole t) (refused 41 0) (run q t s (opened n s) (start s)) v ok
+    parts = demanded (is_whole t) (refused NotWhole 0) (run q t s (opened n s) (start s)) v ok
 
     pub outcome_whole : Whole t
     outcome_whole = whole_from t parts.0
@@ -297,7 +298,7 @@ module _ (q t : List ℕ) (n : ℕ) where
         )
 
     -- a step that would cancel two variables is refused
-    pub cancels_outcome : (i : ℕ) → CancelsTwo q t n i → outcome q t n ≡ Err (refused 44 i)
+    pub cancels_outcome : (i : ℕ) → CancelsTwo q t n i → outcome q t n ≡ Err (refused Clash i)
     cancels_outcome i c =
         let d = c.derived in
         let f = follow q t s n proper d i (omega (arith, c.among)) c.before c.room in
@@ -308,4 +309,4 @@ module _ (q t : List ℕ) (n : ℕ) where
         cond-true _ _ _ (whole_to t c.whole)
         ∙ f.runs
         ∙ run_err q t f.list s f.at less _ (sym stop)
-        ∙ ap (λ k. Err (refused 44 k)) f.reaches
+        ∙ ap (λ k. Err (refused Clash k)) f.reaches

@@ -3,6 +3,7 @@ use Rattle.std.proofs.Common.{◌≡◌, ℕ, ◌^◌, min, true, false, List, �
 use lib.ListN.{length-replicate}
 use Rattle.lists.specs.Counted.{counted, on_counted}
 use Rattle.lists.proofs.Taken.{take_min, drop_min, take_refronted}
+use Rattle.sheet.specs.declared.fault.Cause.TheVariants.{Clash}
 use Rattle.sheet.specs.declared.fault.Fault.{Fault}
 use Rattle.sheet.specs.declared.fault.Layer.TheVariants.{Refutation}
 use Rattle.question.specs.Questions.{span, IsQuestion, Satisfiable}
@@ -37,7 +38,7 @@ module _ (q t w : List ℕ) where
   pub length_checked : length (checked q t w).1 ≡ length w
   length_checked = length_left q t (length w) _ refl
 
-  pub cancels_two_refused : (i : ℕ) → IsQuestion q → CancelsTwo q t (length w) i → (checked q t w).0 ≡ Err (refused 44 i)
+  pub cancels_two_refused : (i : ℕ) → IsQuestion q → CancelsTwo q t (length w) i → (checked q t w).0 ≡ Err (refused Clash i)
   cancels_two_refused i is c = ap verdict (cancels_outcome q t (length w) is.clauses i c)
 
   pub refused_cleared : is_ok (checked q t w).0 ≡ false → (checked q t w).1 ≡ replicate (length w) 0

@@ -2,6 +2,8 @@
 use Rattle.std.specs.Prelude.{◌≡◌, ℕ, zero, suc, ◌+◌, Bool, cond, ◌⊎◌, List, [], ◌∷◌, length, Some, None, Ok, Err, Option, Result, ◌==◌, nat_lt}
 use Rattle.std.specs.List.{AllByRecursion}
 use Rattle.sheet.specs.Faults.{fault, and_then, demand}
+use Rattle.sheet.specs.declared.fault.Cause.{Cause}
+use Rattle.sheet.specs.declared.fault.Cause.TheVariants.{WrongCount, NotABit, FalseClause}
 use Rattle.sheet.specs.declared.fault.Fault.{Fault}
 use Rattle.sheet.specs.declared.fault.Layer.TheVariants.{Assignment}
 use Rattle.signal.specs.Truth.{holds, bits_of}
@@ -18,15 +20,15 @@ lowest_false q α k zero = None
 lowest_false q α k (suc n) = cond (holds α (clause_of q k)) (lowest_false q α (k + 1) n) (Some k)
 
 -- a refusal at the place that was found, if one was
-abbrev pub unless_found : ℕ → Option ℕ → Result (Unit {0}) Fault
-unless_found n None = Ok tt
-unless_found n (Some place) = Err (fault Assignment n place)
+abbrev pub unless_found : Cause → Option ℕ → Result (Unit {0}) Fault
+unless_found c None = Ok tt
+unless_found c (Some place) = Err (fault Assignment c place)
 
 -- the checks of an assignment, in their order
 abbrev pub judged : List ℕ → List ℕ → Result (Unit {0}) Fault
 judged q numbers =
-    demand (length numbers == variable_count q) (fault Assignment 31 0)
-    (and_then (unless_found 32 (first_non_bit 0 numbers)) (λ _. unless_found 33 (lowest_false q (bits_of numbers) 0 (clause_count q))))
+    demand (length numbers == variable_count q) (fault Assignment WrongCount 0)
+    (and_then (unless_found NotABit (first_non_bit 0 numbers)) (λ _. unless_found FalseClause (lowest_false q (bits_of numbers) 0 (clause_count q))))
 
 -- a bit for each variable, and they make every clause true
 pub record Satisfying (q numbers : List ℕ) : Type 0 where

@@ -1,6 +1,7 @@
 -- One pass over the union of two clauses, which writes its literals and looks for what forbids the step. Assumes nothing.
 use Rattle.std.specs.Prelude.{◌≡◌, ℕ, ◌+◌, ◌-◌, ◌*◌, ◌<◌, ◌≤◌, Bool, true, cond, not, ◌&&◌, ◌||◌, ◌⊎◌, List, [], ◌∷◌, ◌++◌, length, take, drop, Some, None, Ok, Err, Option, Result, ◌==◌, nat_le}
 use Rattle.std.proofs.lemmas.List.Edits.{sets}
+use Rattle.sheet.specs.declared.fault.Cause.TheVariants.{WorkTooShort}
 use Rattle.sheet.specs.declared.fault.Fault.{Fault}
 use Rattle.answer.specs.Joint.{union, without, repeats, joint, clashing, has, opposes}
 use Rattle.answer.specs.Steps.{refused, line_before, come_before}
@@ -86,5 +87,5 @@ passed q w s at =
 
 -- why the step i, which has no clause, has none
 abbrev pub blamed : ℕ → Result (Unit {0}) Fault → Fault
-blamed i (Ok _) = refused 45 i
+blamed i (Ok _) = refused WorkTooShort i
 blamed i (Err f) = f

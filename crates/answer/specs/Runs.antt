@@ -1,6 +1,7 @@
 -- What a whole refutation does to the working list. Assumes nothing.
 use Rattle.std.specs.Prelude.{◌≡◌, ℕ, zero, suc, ◌+◌, ◌-◌, ◌*◌, Bool, ◌&&◌, List, length, replicate, Ok, Err, Result, ◌==◌, nat_le, nat_lt, slice_set}
 use Rattle.sheet.specs.Faults.{and_then, demand, map_ok}
+use Rattle.sheet.specs.declared.fault.Cause.TheVariants.{NotWhole, NotEmpty}
 use Rattle.sheet.specs.declared.fault.Fault.{Fault}
 use Rattle.question.specs.Questions.{span}
 use Rattle.answer.specs.Steps.{step_count, step_of, refused, advanced, noted}
@@ -20,7 +21,7 @@ opened n s = slice_set (replicate n 0) 0 (s + 1)
 
 -- the last clause has to be empty
 abbrev pub finished : List ℕ → Progress → Result (List ℕ) Fault
-finished w at = demand (length (span w (at.step - 1)) == 0) (refused 46 (at.step - 1)) (Ok w)
+finished w at = demand (length (span w (at.step - 1)) == 0) (refused NotEmpty (at.step - 1)) (Ok w)
 
 -- n steps more: the working list after them
 abbrev pub run : List ℕ → List ℕ → ℕ → List ℕ → Progress → Result (List ℕ) Fault
@@ -31,7 +32,7 @@ run q t (suc n) w at =
 
 -- all steps, with a working list of n places
 abbrev pub outcome : List ℕ → List ℕ → ℕ → Result (List ℕ) Fault
-outcome q t n = demand (is_whole t) (refused 41 0) (run q t (step_count t) (opened n (step_count t)) (start (step_count t)))
+outcome q t n = demand (is_whole t) (refused NotWhole 0) (run q t (step_count t) (opened n (step_count t)) (start (step_count t)))
 
 abbrev pub verdict : Result (List ℕ) Fault → Result (Unit {0}) Fault
 verdict o = map_ok (λ _. tt) o

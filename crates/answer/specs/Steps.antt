@@ -2,6 +2,8 @@
 use Rattle.std.specs.Prelude.{ℕ, ◌+◌, ◌*◌, Bool, not, ◌&&◌, List, length, take, Ok, Result, nat_le, nat_lt, slice_index, slice_set}
 use Rattle.std.proofs.lemmas.List.Edits.{sets}
 use Rattle.sheet.specs.Faults.{fault, and_then, demand}
+use Rattle.sheet.specs.declared.fault.Cause.{Cause}
+use Rattle.sheet.specs.declared.fault.Cause.TheVariants.{LaterLine, PivotNotOpposed, Clash, WorkTooShort}
 use Rattle.sheet.specs.declared.fault.Fault.{Fault}
 use Rattle.sheet.specs.declared.fault.Layer.TheVariants.{Refutation}
 use Rattle.question.specs.Questions.{clause_count, span}
@@ -18,8 +20,8 @@ step_count t = slice_index t 0
 abbrev pub step_of : List ℕ → ℕ → Step
 step_of t i = record { first = slice_index t (3 * i + 1); second = slice_index t (3 * i + 2); pivot = slice_index t (3 * i + 3) }
 
-abbrev pub refused : ℕ → ℕ → Fault
-refused n i = fault Refutation n i
+abbrev pub refused : Cause → ℕ → Fault
+refused c i = fault Refutation c i
 
 -- the clause of a line; what stands in the working list before the place end is done
 abbrev pub line_before : List ℕ → List ℕ → ℕ → ℕ → List ℕ
@@ -35,12 +37,12 @@ come_before q i s = nat_lt s.first (clause_count q + i) && nat_lt s.second (clau
 
 -- the checks of the two clauses of the step i
 abbrev pub matched : List ℕ → List ℕ → ℕ → ℕ → Result (Unit {0}) Fault
-matched xs ys p i = demand (opposes xs ys p) (refused 43 i) (demand (not (clashing xs ys p)) (refused 44 i) (Ok tt))
+matched xs ys p i = demand (opposes xs ys p) (refused PivotNotOpposed i) (demand (not (clashing xs ys p)) (refused Clash i) (Ok tt))
 
 -- the checks of a step, in their order, but for that of room
 abbrev pub suited : List ℕ → List ℕ → Step → Progress → Result (Unit {0}) Fault
 suited q w s at =
-    demand (come_before q at.step s) (refused 42 at.step)
+    demand (come_before q at.step s) (refused LaterLine at.step)
     (matched (line_before q w at.end s.first) (line_before q w at.end s.second) s.pivot at.step)
 
 -- a step further, where the clause of this one ends at the place end
@@ -51,7 +53,7 @@ onward at end = record { step = at.step + 1; end = end }
 abbrev pub advanced : List ℕ → List ℕ → Step → Progress → Result Progress Fault
 advanced q w s at =
     let end = at.end + length (made_by q w s at.end) in
-    and_then (suited q w s at) (λ _. demand (nat_le end (length w)) (refused 45 at.step) (Ok (onward at end)))
+    and_then (suited q w s at) (λ _. demand (nat_le end (length w)) (refused WorkTooShort at.step) (Ok (onward at end)))
 
 -- the working list after that step: its clause, and the place where that ends
 abbrev pub noted : List ℕ → List ℕ → Step → Progress → List ℕ

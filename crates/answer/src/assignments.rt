@@ -9,7 +9,7 @@ ghost use Rattle.answer.specs.Reasons.{AssignmentReasoned};
 use crate::lines::{clause_count, part};
 use lists::counted;
 use question::read::number_at;
-use sheet::fault::{Fault, Layer};
+use sheet::fault::{Cause, Fault, Layer};
 use signal::clauses::satisfies_clause;
 
 fn first_non_bit(assignment: &[u32]) -> Option<u32>
@@ -38,14 +38,14 @@ fn lowest_false_clause(question: &[u32], assignment: &[u32]) -> Option<u32>
 }
 
 // A refusal where something was found.
-fn unless_found(number: u32, found: Option<u32>) -> Result<(), Fault>
-    ensures { result ≡ unless_found number found }
+fn unless_found(cause: Cause, found: Option<u32>) -> Result<(), Fault>
+    ensures { result ≡ unless_found cause found }
 {
     match found {
         None => Ok(()),
         Some(place) => Err(Fault {
             layer: Layer::Assignment,
-            number,
+            cause,
             place,
         }),
     }
@@ -60,12 +60,12 @@ fn judge(question: &[u32], assignment: &[u32]) -> Result<(), Fault>
     if assignment.len() != number_at(question, 0) as usize {
         return Err(Fault {
             layer: Layer::Assignment,
-            number: 31,
+            cause: Cause::WrongCount,
             place: 0,
         });
     }
-    unless_found(32, first_non_bit(assignment))?;
-    unless_found(33, lowest_false_clause(question, assignment))
+    unless_found(Cause::NotABit, first_non_bit(assignment))?;
+    unless_found(Cause::FalseClause, lowest_false_clause(question, assignment))
 }
 
 // Whether an assignment has a number for each variable (else 31), each 0 or 1 (else 32, at the first variable whose number

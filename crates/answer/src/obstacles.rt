@@ -7,7 +7,7 @@ ghost use Rattle.answer.specs.Steps.{matched, suited, come_before};
 use crate::lines::{clause_at, clause_count};
 use crate::passes::{Next, lesser};
 use crate::steps::{Progress, Step, refusal};
-use sheet::fault::Fault;
+use sheet::fault::{Cause, Fault};
 
 // The next literal of two clauses in order, if one of them goes on.
 fn advance(first: &[u32], second: &[u32], i: usize, j: usize) -> Option<Next>
@@ -78,10 +78,10 @@ fn check_clauses(first: &[u32], second: &[u32], pivot: u32, step: u32) -> Result
     ensures { result ≡ matched first.now second.now pivot step }
 {
     if !oppose(first, second, pivot) {
-        return Err(refusal(43, step));
+        return Err(refusal(Cause::PivotNotOpposed, step));
     }
     if clash(first, second, pivot) {
-        return Err(refusal(44, step));
+        return Err(refusal(Cause::Clash, step));
     }
     Ok(())
 }
@@ -99,7 +99,7 @@ fn check_step(question: &[u32], work: &[u32], s: Step, at: Progress) -> Result<(
     ensures { result ≡ suited question.now work.now s at }
 {
     if !come_before(question, at.step, s) {
-        return Err(refusal(42, at.step));
+        return Err(refusal(Cause::LaterLine, at.step));
     }
     let done = &work[0..at.end.min(work.len())];
     check_clauses(
@@ -115,7 +115,7 @@ pub(crate) fn blame(question: &[u32], work: &[u32], s: Step, at: Progress) -> Fa
     ensures { result ≡ blamed at.step (suited question.now work.now s at) }
 {
     match check_step(question, work, s, at) {
-        Ok(()) => refusal(45, at.step),
+        Ok(()) => refusal(Cause::WorkTooShort, at.step),
         Err(fault) => fault,
     }
 }

@@ -1,5 +1,6 @@
 // Refutations: steps that derive the empty clause from the clauses of a question by resolution.
 ghost use Rattle.std.specs.Prelude.{◌≡◌, ℕ, ◌+◌, ◌^◌, ◌<◌, ◌≤◌, true, false, length, take, replicate, is_some, is_ok, IfOk, Err, Decides};
+ghost use Rattle.sheet.specs.declared.fault.Cause.TheVariants.{Clash};
 ghost use Rattle.std.proofs.lemmas.List.Edits.{sets};
 ghost use Rattle.lists.specs.Counted.{counted, on_counted};
 ghost use Rattle.question.specs.Questions.{span, IsQuestion, Satisfiable};
@@ -15,7 +16,7 @@ use crate::obstacles::{blame, come_before};
 use crate::passes::join;
 use crate::steps::{Progress, Step, count_steps, read_step, refusal};
 use lists::{counted, counted_len};
-use sheet::fault::Fault;
+use sheet::fault::{Cause, Fault};
 
 // Writes the clause of a step behind what is done, and answers where it ends; `None` where it has none, or no room.
 fn join_lines(question: &[u32], work: &mut [u32], s: Step, at: Progress) -> Option<usize>
@@ -80,7 +81,7 @@ fn take_steps(
     if part(work, at.step as usize - 1).is_empty() {
         Ok(())
     } else {
-        Err(refusal(46, at.step - 1))
+        Err(refusal(Cause::NotEmpty, at.step - 1))
     }
 }
 
@@ -126,7 +127,7 @@ pub fn check_refutation(question: &[u32], refutation: &[u32], work: &mut [u32]) 
     ensures clears_the_working_list_if_refused { is_ok result ≡ false → counted work.new ≡ replicate (length (counted work.old)) 0 }
     ensures refutes { IsQuestion (counted question.now) → is_ok result ≡ true → Satisfiable (counted question.now) → ⊥ }
     ensures gives_the_reason { IsQuestion (counted question.now) → RefutationReasoned (counted question.now) (counted refutation.now) (length (counted work.old)) result }
-    ensures a_step_that_cancels_two_variables_is_refused { (i : ℕ) → IsQuestion (counted question.now) → CancelsTwo (counted question.now) (counted refutation.now) (length (counted work.old)) i → result ≡ Err (refused 44 i) }
+    ensures a_step_that_cancels_two_variables_is_refused { (i : ℕ) → IsQuestion (counted question.now) → CancelsTwo (counted question.now) (counted refutation.now) (length (counted work.old)) i → result ≡ Err (refused Clash i) }
 {
     let room = counted_len(work.len());
     check_counted(counted(question), counted(refutation), &mut work[0..room])

@@ -1,6 +1,7 @@
 // The steps of a refutation: how many there are, and for each the two lines that it joins and the variable that it joins
 // them on.
 ghost use Rattle.std.specs.Prelude.{◌≡◌, Ok};
+ghost use Rattle.sheet.specs.declared.fault.Cause.TheVariants.{NotWhole};
 ghost use Rattle.lists.specs.Counted.{counted};
 ghost use Rattle.sheet.specs.Faults.{demand};
 ghost use Rattle.answer.specs.Runs.{is_whole};
@@ -8,7 +9,7 @@ ghost use Rattle.answer.specs.Steps.{step_count, step_of, refused};
 
 use lists::counted;
 use question::read::number_at;
-use sheet::fault::{Fault, Layer};
+use sheet::fault::{Cause, Fault, Layer};
 
 // Two lines, and the variable that stands plain in the first and negated in the second.
 #[derive(Clone, Copy, PartialEq, Eq)]
@@ -25,25 +26,25 @@ pub(crate) struct Progress {
     pub end: usize,
 }
 
-pub(crate) fn refusal(number: u32, step: u32) -> Fault
-    ensures { result ≡ refused number step }
+pub(crate) fn refusal(cause: Cause, step: u32) -> Fault
+    ensures { result ≡ refused cause step }
 {
     Fault {
         layer: Layer::Refutation,
-        number,
+        cause,
         place: step,
     }
 }
 
 // How many steps there are, from 1 to 16777216, if all their numbers are there.
 pub(crate) fn count_steps(refutation: &[u32]) -> Result<u32, Fault>
-    ensures { result ≡ demand (is_whole refutation.now) (refused 41 0) (Ok (step_count refutation.now)) }
+    ensures { result ≡ demand (is_whole refutation.now) (refused NotWhole 0) (Ok (step_count refutation.now)) }
 {
     let steps = number_at(refutation, 0);
     if steps >= 1 && steps <= 16_777_216 && 1 + 3 * steps as usize <= refutation.len() {
         Ok(steps)
     } else {
-        Err(refusal(41, 0))
+        Err(refusal(Cause::NotWhole, 0))
     }
 }
 

@@ -261,7 +261,7 @@ const DAMAGED: [Damaged; 22] = [
 // The number and the place that an assignment is refused with; zeros if it is accepted.
 fn refusal_of(question: &[u32], numbers: &[u32]) -> (u32, u32) {
     match satisfies(question, numbers) {
-        Err(fault) if fault.layer == Layer::Assignment => (fault.number, fault.place),
+        Err(fault) if fault.layer == Layer::Assignment => (fault.number(), fault.place),
         _ => (0, 0),
     }
 }
@@ -280,7 +280,7 @@ fn all_are(list: &[u32], x: u32) -> bool {
 // leaves something else.
 fn refusal_in(question: &[u32], refutation: &[u32], work: &mut [u32]) -> (u32, u32) {
     let refusal = match check_refutation(question, refutation, work) {
-        Err(fault) if fault.layer == Layer::Refutation => (fault.number, fault.place),
+        Err(fault) if fault.layer == Layer::Refutation => (fault.number(), fault.place),
         _ => (0, 0),
     };
     if all_are(work, 0) { refusal } else { (0, 0) }
@@ -445,7 +445,7 @@ fn a_long_refutation(rt: HostRuntime) -> Result<(), Fail> {
     match check_refutation(&question, &refutation, &mut short) {
         Ok(()) => Err(Fail::new("accepted")),
         Err(fault) => {
-            assert_eq!(rt; (fault.number, fault.place), (45, 2998));
+            assert_eq!(rt; (fault.number(), fault.place), (45, 2998));
             Ok(())
         },
     }

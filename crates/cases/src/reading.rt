@@ -250,7 +250,7 @@ fn refusal_of(text: &[u8]) -> (u32, u32) {
     let mut list = [7; 452];
     match read(text, &mut list) {
         Err(fault) if fault.layer == Layer::Sheet && list == [7; 452] => (
-            fault.number,
+            fault.number(),
             fault.place,
         ),
         _ => (0, 0),
@@ -313,7 +313,7 @@ fn largest_sheet(rt: HostRuntime) -> Result<(), Fail> {
 // The number and the place that writing refuses the list with, of its own layer; zeros if it writes it.
 fn refusal_of_list(list: &[u32], text: &mut [u8]) -> (u32, u32) {
     match write(list, text) {
-        Err(fault) if fault.layer == Layer::Sheet => (fault.number, fault.place),
+        Err(fault) if fault.layer == Layer::Sheet => (fault.number(), fault.place),
         _ => (0, 0),
     }
 }
@@ -324,7 +324,7 @@ fn room_for_a_sheet(rt: HostRuntime) -> Result<(), Fail> {
     let mut short = [7; 5];
     match read(text, &mut short) {
         Ok(_) => return Err(Fail::new("read")),
-        Err(fault) => assert_eq!(rt; (fault.number, fault.place), (18, 0)),
+        Err(fault) => assert_eq!(rt; (fault.number(), fault.place), (18, 0)),
     }
     assert_eq!(rt; short, [7; 5]);
     let mut bytes = [9; 17];

@@ -13,7 +13,7 @@ const ONE_PRESS: [u32; 12] = [1, 2, 2, 10, 8, 0, 5, 0, 7, 2, 6, 4];
 fn refusal_of(sheet: &[u32], state: &mut [bool], inputs: &[bool]) -> (u32, u32) {
     match simulate_bits(sheet, state, inputs) {
         Ok(_) => (0, 0),
-        Err(fault) => (fault.number, fault.place),
+        Err(fault) => (fault.number(), fault.place),
     }
 }
 

@@ -4,6 +4,7 @@ use Rattle.std.proofs.lemmas.List.{get_or-take}
 use Rattle.std.proofs.lemmas.Bool.{cond-true, cond-false, and_from, and_left, le-leb, lt-leb, lt-ltb, false≢true}
 use Rattle.lists.specs.Counted.{counted}
 use Rattle.sheet.specs.Faults.{fault}
+use Rattle.sheet.specs.declared.fault.Cause.TheVariants.{StartFormulaTooLong, StartQuestionTooLong}
 use Rattle.sheet.specs.declared.fault.Fault.{Fault}
 use Rattle.sheet.specs.declared.fault.Layer.TheVariants.{Open}
 use Rattle.sheet.specs.Render.{well_formed}
@@ -101,7 +102,7 @@ module _ (l : List ℕ) (K Q : ℕ) (f q : List ℕ) where
       cond-true _ _ _ (sym formed) ∙ cond-true _ _ _ (le-leb K 30 bound)
       ∙ cond-true _ _ _ (and_from (ltb 0 Q) (leb Q 4294967295) (lt-ltb 0 Q some) (le-leb Q 4294967295 few))
 
-  pub unstarted : true ≡ well_formed (counted l) → K ≤ 30 → 0 < Q → Q ≤ 4294967295 → (e : Fault) → e ≡ fault Open 24 0
+  pub unstarted : true ≡ well_formed (counted l) → K ≤ 30 → 0 < Q → Q ≤ 4294967295 → (e : Fault) → e ≡ fault Open StartFormulaTooLong 0
       → (n len : ℕ) → n ≡ size_of_start (counted l) → len ≡ min (length f) (2 ^ 28) → len < 2 * n
       → ◌≡◌ {A = Opened} (Err e, f, q) (opened l K Q f q)
   unstarted formed bound some few e is n len size cut lacks =
@@ -116,12 +117,12 @@ module _ (l : List ℕ) (K Q : ℕ) (f q : List ℕ) where
       ap (λ (p : Posed). p.0) (cond-false _ _ _ (and_left (leb (length list) (length (counted q))) (all_below (2 ^ 32) list) (lt-leb (length list) (length (counted q)) lacks)))
   posed_none false list lacks = refl
 
-  asked_none : (d : Started) (f' : List ℕ) (o : Option ℕ) (x : List ℕ) → o ≡ None → start_asked K Q d f f' q (o, x) ≡ unopened 25 f q
+  asked_none : (d : Started) (f' : List ℕ) (o : Option ℕ) (x : List ℕ) → o ≡ None → start_asked K Q d f f' q (o, x) ≡ unopened StartQuestionTooLong f q
   asked_none d f' None x none = refl
   asked_none d f' (Some n) x none = absurd (none_some n (sym none))
 
   made_none : Legal (counted l) → 2 * size_of_start (counted l) ≤ length (counted f) → length (counted q) < 10 + 10 * (gate_count (counted l) + size_of_start (counted l))
-      → (o : Option Started) (t : List ℕ) → ◌≡◌ {A = Found} (o, t) (write_start l f) → start_made l K Q f q (o, t) ≡ unopened 25 f q
+      → (o : Option Started) (t : List ℕ) → ◌≡◌ {A = Found} (o, t) (write_start l f) → start_made l K Q f q (o, t) ≡ unopened StartQuestionTooLong f q
   made_none legal room lacks None t e =
       absurd
       (⊎_elim
@@ -135,7 +136,7 @@ module _ (l : List ℕ) (K Q : ℕ) (f q : List ℕ) where
       let p : Posed = posed_if (given l t d.count) list q in
       asked_none d t p.0 p.1 (posed_none (given l t d.count) list (omega arith))
 
-  pub unasked : true ≡ well_formed (counted l) → K ≤ 30 → 0 < Q → Q ≤ 4294967295 → (e : Fault) → e ≡ fault Open 25 0
+  pub unasked : true ≡ well_formed (counted l) → K ≤ 30 → 0 < Q → Q ≤ 4294967295 → (e : Fault) → e ≡ fault Open StartQuestionTooLong 0
       → (n len : ℕ) → n ≡ size_of_start (counted l) → len ≡ min (length f) (2 ^ 28) → 2 * n ≤ len
       → (m space : ℕ) → m ≡ 10 + 10 * (gate_count (counted l) + n) → space ≡ min (length q) (2 ^ 28) → space < m
       → ◌≡◌ {A = Opened} (Err e, f, q) (opened l K Q f q)

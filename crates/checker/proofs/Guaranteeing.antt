@@ -9,6 +9,7 @@ use Rattle.signal.specs.Truth.{bits_of}
 use Rattle.sheet.specs.Faults.{fault}
 use Rattle.sheet.specs.Render.{well_formed}
 use Rattle.sheet.specs.Sheets.{Sheet, Legal}
+use Rattle.sheet.specs.declared.fault.Cause.TheVariants.{RunTooShort}
 use Rattle.sheet.specs.declared.fault.Fault.{Fault}
 use Rattle.sheet.specs.declared.fault.Layer.TheVariants.{ReadOff}
 use Rattle.sheet.proofs.Legality.{legal_well_formed}
@@ -108,7 +109,7 @@ module _ (l : List ℕ) (K Q last v n : ℕ) (xs : List ℕ) (ran : Ran l (Comes
         held_back = λ lent run-list same few.
             let p = offered lent run-list same ∙ cond-false (leb (run_size s m) (length (counted run-list))) _ _ (lt-leb (run_size s m) (length (counted run-list)) few) in
             ap (λ (o : Off). let r : Result Report Fault × List ℕ = (reported_run e o.0, o.1 ++ uncounted run-list) in r) p
-            ∙ ap (λ (ys : List ℕ). let r : Result Report Fault × List ℕ = (Err (fault ReadOff 51 0), ys) in r) (take-append-drop (2 ^ 28) run-list);
+            ∙ ap (λ (ys : List ℕ). let r : Result Report Fault × List ℕ = (Err (fault ReadOff RunTooShort 0), ys) in r) (take-append-drop (2 ^ 28) run-list);
       }
 
 -- the end of a series, with its count

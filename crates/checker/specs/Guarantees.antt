@@ -2,6 +2,7 @@
 use Rattle.std.specs.Prelude.{◌≡◌, ℕ, ◌+◌, ◌-◌, ◌<◌, ◌≤◌, ◌⊎◌, List, [], ◌++◌, length, take, replicate, Ok, Err}
 use Rattle.lists.specs.Counted.{counted, uncounted}
 use Rattle.sheet.specs.Faults.{fault}
+use Rattle.sheet.specs.declared.fault.Cause.TheVariants.{RunTooShort}
 use Rattle.sheet.specs.declared.fault.Layer.TheVariants.{ReadOff}
 use Rattle.machine.specs.Runs.{BadRun}
 use Rattle.checker.specs.declared.End.TheVariants.{Safe as SafeEnd, Run as RunEnd, Undecided as UndecidedEnd, Spent as SpentEnd, Short as ShortEnd}
@@ -38,7 +39,7 @@ pub record Runs (l : List ℕ) (e : Ended) (xs : List ℕ) (n : ℕ) : Type 0 wh
       → read_off l e lent run
       ≡ (Ok (reports (Run steps) e n), (run_written bad_run.first bad_run.later ++ replicate (length (counted run) - run_size (sheet_in l) steps) 0) ++ uncounted run)
   pub held_back : (lent run : List ℕ) → take (length xs) (counted lent) ≡ xs → length (counted run) < run_size (sheet_in l) steps
-      → read_off l e lent run ≡ (Err (fault ReadOff 51 0), run)
+      → read_off l e lent run ≡ (Err (fault ReadOff RunTooShort 0), run)
 
 -- ---- how a check ended
 abbrev pub EndedSafe : Ended → Type 0

@@ -4,6 +4,8 @@ use Rattle.lists.specs.Counted.{counted}
 use Rattle.sheet.specs.Faults.{fault}
 use Rattle.sheet.specs.Render.{well_formed}
 use Rattle.sheet.specs.Sheets.{sheet_of}
+use Rattle.sheet.specs.declared.fault.Cause.{Cause}
+use Rattle.sheet.specs.declared.fault.Cause.TheVariants.{NotLegal, StepLimit, TurnLimit, StartFormulaTooLong, StartQuestionTooLong}
 use Rattle.sheet.specs.declared.fault.Fault.{Fault}
 use Rattle.sheet.specs.declared.fault.Layer.TheVariants.{Open}
 use Rattle.formula.specs.Built.{write_start}
@@ -17,7 +19,7 @@ use Rattle.checker.specs.declared.Asked.{Asked}
 abbrev pub Opened : Type 0
 Opened = Result Asked Fault × List ℕ × List ℕ
 
-abbrev pub unopened : ℕ → List ℕ → List ℕ → Opened
+abbrev pub unopened : Cause → List ℕ → List ℕ → Opened
 unopened n f q = (Err (fault Open n 0), f, q)
 
 -- the start formula
@@ -31,12 +33,12 @@ at_start K Q d n =
 
 -- the start question of the start formula d, which lies in f'; what is not opened leaves the lists f and q
 abbrev pub start_asked : ℕ → ℕ → Started → List ℕ → List ℕ → List ℕ → Option ℕ × List ℕ → Opened
-start_asked K Q d f f' q p = elim p.0 [ None ↦ unopened 25 f q | Some n ↦ (Ok (at_start K Q d n), f', p.1) ]
+start_asked K Q d f f' q p = elim p.0 [ None ↦ unopened StartQuestionTooLong f q | Some n ↦ (Ok (at_start K Q d n), f', p.1) ]
 
 abbrev pub start_made : List ℕ → ℕ → ℕ → List ℕ → List ℕ → Option Started × List ℕ → Opened
 start_made l K Q f q p =
     elim p.0 [
-      | None ↦ unopened 24 f q
+      | None ↦ unopened StartFormulaTooLong f q
       | Some d ↦ start_asked K Q d f p.1 q (posed_if (given l p.1 d.count) (start_list (sheet_of (counted l)) (counted p.1) d.count d.literal.0) q)
     ]
 
@@ -44,5 +46,5 @@ start_made l K Q f q p =
 abbrev pub opened : List ℕ → ℕ → ℕ → List ℕ → List ℕ → Opened
 opened l K Q f q =
     cond (well_formed (counted l))
-    (cond (nat_le K 30) (cond (nat_lt 0 Q && nat_le Q 4294967295) (start_made l K Q f q (write_start l f)) (unopened 23 f q)) (unopened 22 f q))
-    (unopened 21 f q)
+    (cond (nat_le K 30) (cond (nat_lt 0 Q && nat_le Q 4294967295) (start_made l K Q f q (write_start l f)) (unopened TurnLimit f q)) (unopened StepLimit f q))
+    (unopened NotLegal f q)

@@ -7,6 +7,7 @@ use Rattle.signal.specs.Truth.{lit, bits_of}
 use Rattle.sheet.specs.Faults.{fault}
 use Rattle.sheet.specs.Render.{well_formed}
 use Rattle.sheet.specs.Sheets.{Sheet, sheet_of}
+use Rattle.sheet.specs.declared.fault.Cause.TheVariants.{RunTooShort}
 use Rattle.sheet.specs.declared.fault.Fault.{Fault}
 use Rattle.sheet.specs.declared.fault.Layer.TheVariants.{ReadOff}
 use Rattle.machine.specs.Runs.{Frame}
@@ -63,7 +64,7 @@ abbrev pub run_in : Sheet → List ℕ → ℕ → List ℕ → Result ℕ Fault
 run_in s xs m run =
     cond (nat_le (run_size s m) (length run))
     (Ok m, run_numbers s xs m ++ replicate (length run - run_size s m) 0)
-    (Err (fault ReadOff 51 0), run)
+    (Err (fault ReadOff RunTooShort 0), run)
 
 -- a list that lays out no sheet has no frames to write
 abbrev pub run_off : List ℕ → List ℕ → ℕ → List ℕ → Result ℕ Fault × List ℕ

@@ -19,19 +19,19 @@ use formula::start::{start_formula, start_size};
 use lists::{counted, counted_len};
 use question::build::start_question;
 use question::read::number_at;
-use sheet::fault::{Fault, Layer};
+use sheet::fault::{Cause, Fault, Layer};
 use sheet::write::is_legal;
 
 // The largest step limit.
 const MOST_BOUND: u32 = 30;
 
 // A refusal to open a check.
-fn unopened(number: u32) -> Fault
-    ensures { result ≡ fault Open number 0 }
+fn unopened(cause: Cause) -> Fault
+    ensures { result ≡ fault Open cause 0 }
 {
     Fault {
         layer: Layer::Open,
-        number,
+        cause,
         place: 0,
     }
 }
@@ -56,10 +56,10 @@ fn begin(
     ensures { ◌≡◌ {A = Opened} (result, formula.new, question.new) (start_made sheet.now limits.bound limits.turns formula.old question.old (write_start sheet.now formula.old)) }
 {
     match start_formula(sheet, formula) {
-        None => Err(unopened(24)),
+        None => Err(unopened(Cause::StartFormulaTooLong)),
         Some(start) => {
             match start_question(sheet, formula, start.count, start.literal, question) {
-                None => Err(unopened(25)),
+                None => Err(unopened(Cause::StartQuestionTooLong)),
                 Some(size) => {
                     let opening = Region {
                         literal: start.literal,
@@ -91,20 +91,20 @@ fn open_check(
     ensures { ◌≡◌ {A = Opened} (result, formula.new, question.new) (opened sheet.now limits.bound limits.turns formula.old question.old) }
 {
     if !is_legal(sheet) {
-        return Err(unopened(21));
+        return Err(unopened(Cause::NotLegal));
     }
     if limits.bound > MOST_BOUND {
-        return Err(unopened(22));
+        return Err(unopened(Cause::StepLimit));
     }
     if limits.turns == 0 {
-        return Err(unopened(23));
+        return Err(unopened(Cause::TurnLimit));
     }
     let gates = start_size(sheet);
     if counted_len(formula.len()) < 2 * gates as usize {
-        return Err(unopened(24));
+        return Err(unopened(Cause::StartFormulaTooLong));
     }
     if counted_len(question.len()) < start_question_size(sheet, gates) {
-        return Err(unopened(25));
+        return Err(unopened(Cause::StartQuestionTooLong));
     }
     begin(sheet, limits, formula, question)
 }

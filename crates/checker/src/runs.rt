@@ -10,7 +10,7 @@ ghost use Rattle.checker.specs.Reports.{first_bad, numbers_from, frame_numbers, 
 use formula::frame::in_frame;
 use lists::{counted, counted_len};
 use question::read::number_at;
-use sheet::fault::{Fault, Layer};
+use sheet::fault::{Cause, Fault, Layer};
 use sheet::literal::Literal;
 use sheet::write::is_legal;
 use signal::{Signal, literal_value};
@@ -124,7 +124,7 @@ fn run_in(sheet: &[u32], assignment: &[u32], last: u32, run: &mut [u32]) -> Resu
     if run.len() < run_size(sheet, steps) {
         return Err(Fault {
             layer: Layer::ReadOff,
-            number: 51,
+            cause: Cause::RunTooShort,
             place: 0,
         });
     }

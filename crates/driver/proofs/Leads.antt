@@ -4,6 +4,7 @@ use Rattle.std.proofs.lemmas.List.{take_all}
 use Rattle.lists.specs.Counted.{counted}
 use Rattle.lists.proofs.Taken.{take_min}
 use Rattle.sheet.specs.Faults.{fault}
+use Rattle.sheet.specs.declared.fault.Cause.TheVariants.{NoAnswer}
 use Rattle.sheet.specs.declared.fault.Fault.{Fault}
 use Rattle.sheet.specs.declared.fault.Layer.TheVariants.{Run, Assignment as OfAssignment, Refutation as OfRefutation}
 use Rattle.question.specs.Questions.{variable_count, IsQuestion}
@@ -102,7 +103,7 @@ module _ (l : List ℕ) (K Q : ℕ) (a : Asked) (x : Lists) (n : ℕ) (s : Serie
   excused Assignment b w h =
       shown_excused b w (judged q (counted (assignment_in a x b))) (ap (judged q) (front_few (variable_count q) b) ∙ h)
   excused Refutation b w h = weighed_excused b _ (checked q (counted b) (counted w)).0 (h (counted w))
-  excused TooLong b w h = record { turns = n; series = s; why = inr (ap (λ (i : ℕ). fault Run 61 i) (count_is_true l K Q (at_asked a) x n s), h) }
+  excused TooLong b w h = record { turns = n; series = s; why = inr (ap (λ (i : ℕ). fault Run NoAnswer i) (count_is_true l K Q (at_asked a) x n s), h) }
 
   -- ---- a refusal of the run's own layer comes of no answer
   abbrev Own : Turn → Type 0

@@ -7,6 +7,8 @@ use Rattle.std.proofs.lemmas.Bool.{eqb-true}
 use Rattle.std.specs.Fmt.{digits, digits_onto, digit_glyph}
 use Rattle.lists.specs.Counted.{counted}
 use Rattle.sheet.specs.Sheets.{input_count, latch_count}
+use Rattle.sheet.specs.Faults.{cause_number}
+use Rattle.sheet.proofs.Causes.{number_small}
 use Rattle.sheet.specs.declared.fault.Fault.{Fault}
 use Rattle.checker.specs.Reports.{numbers_from}
 use Rattle.checker.specs.declared.Lack.TheVariants.{Formula}
@@ -204,9 +206,9 @@ tells_report r l run text lb lt is = record {
   no_refusal = λ f e. apart r l run f (sym is ∙ e);
 }
 
-pub tells_fault : (f : Fault) (text : List ℕ) → f.number < 2 ^ 32 → f.place < 2 ^ 32 → text ≡ fault_text f → TellsFault f text
-tells_fault f text ln lp is = record {
-  numbers = λ g ln' lp' e. two_numbers f.number f.place g.number g.place [] [] ln lp ln' lp'
+pub tells_fault : (f : Fault) (text : List ℕ) → f.place < 2 ^ 32 → text ≡ fault_text f → TellsFault f text
+tells_fault f text lp is = record {
+  numbers = λ g lp' e. two_numbers (cause_number f.cause) f.place (cause_number g.cause) g.place [] [] (number_small f.cause) lp (number_small g.cause) lp'
       (ap (λ (ys : List ℕ). drop 2 ys ++ []) (sym is ∙ e));
   no_verdict = λ r l run e. apart r l run f (sym e ∙ is);
 }

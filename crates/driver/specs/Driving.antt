@@ -2,6 +2,7 @@
 use Rattle.std.specs.Prelude.{◌≡◌, ℕ, Bool, List, take, Ok, Err, Result}
 use Rattle.lists.specs.Counted.{counted}
 use Rattle.sheet.specs.Faults.{fault}
+use Rattle.sheet.specs.declared.fault.Cause.TheVariants.{NoAnswer}
 use Rattle.sheet.specs.declared.fault.Layer.TheVariants.{Run}
 use Rattle.question.specs.Questions.{variable_count}
 use Rattle.producer.specs.Replying.{Replies, KeepsWord}
@@ -34,7 +35,7 @@ weighed_turn l b x (Err r) w = (Err r, x, w)
 
 -- the producer gave no answer
 abbrev pub unanswered : Asked → Refused
-unanswered a = handed_back a (fault Run 61 a.turns)
+unanswered a = handed_back a (fault Run NoAnswer a.turns)
 
 abbrev pub answered : List ℕ → Asked → Reply → List ℕ → List ℕ → Lists → Turn
 answered l a Assignment b w x = let p = shown l a (assignment_in a x b) x in (p.0, p.1, w)

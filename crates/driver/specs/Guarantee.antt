@@ -3,6 +3,7 @@ use Rattle.std.specs.Prelude.{◌≡◌, ℕ, ◌<◌, ◌≤◌, Bool, true, �
 use Rattle.lists.specs.Counted.{counted}
 use Rattle.sheet.specs.Faults.{fault}
 use Rattle.sheet.specs.Sheets.{Legal, sheet_of}
+use Rattle.sheet.specs.declared.fault.Cause.TheVariants.{WorkTooShort, NoAnswer}
 use Rattle.sheet.specs.declared.fault.Fault.{Fault}
 use Rattle.sheet.specs.declared.fault.Layer.TheVariants.{Run}
 use Rattle.machine.specs.Depth.{ReverseDepth, HasReverseDepth}
@@ -39,8 +40,8 @@ OnSeries l K Q (Err r) x b = (n : ℕ) × Series l K Q (at_asked r.asked) x n
 pub record Unanswered (l : List ℕ) (K Q : ℕ) (r : Refused) (x : Lists) (b w : List ℕ) : Type 0 where
   pub turns : ℕ
   pub series : Series l K Q (at_asked r.asked) x turns
-  pub why : ((i : ℕ) × (r.fault ≡ refused 45 i))
-      ⊎ ((r.fault ≡ fault Run 61 turns) × Wanting (variable_count (counted (fetched r.asked x.question))) (length (counted b)) (length (counted w)))
+  pub why : ((i : ℕ) × (r.fault ≡ refused WorkTooShort i))
+      ⊎ ((r.fault ≡ fault Run NoAnswer turns) × Wanting (variable_count (counted (fetched r.asked x.question))) (length (counted b)) (length (counted w)))
 
 abbrev pub HonestEnd : List ℕ → ℕ → ℕ → Result Ended Refused → Lists → List ℕ → List ℕ → Type 0
 HonestEnd l K Q (Ok e) x b w = Decided e

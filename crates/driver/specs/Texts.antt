@@ -2,6 +2,7 @@
 use Rattle.std.specs.Prelude.{◌≡◌, ℕ, zero, suc, ◌^◌, ◌<◌, List, [], ◌∷◌, ◌++◌, map, length, drop, codes, decimal, ◌≢◌}
 use Rattle.lists.specs.Counted.{counted}
 use Rattle.sheet.specs.Sheets.{Sheet, input_count, latch_count}
+use Rattle.sheet.specs.Faults.{cause_number}
 use Rattle.sheet.specs.declared.fault.Fault.{Fault}
 use Rattle.machine.specs.Runs.{Frame}
 use Rattle.checker.specs.Points.{sheet_in}
@@ -52,7 +53,7 @@ abbrev pub ended_text : Report → List ℕ → List ℕ → List ℕ
 ended_text r l run = report_text r ++ run_text r.verdict (latch_count (counted l)) (input_count (counted l)) (counted run)
 
 abbrev pub fault_text : Fault → List ℕ
-fault_text f = line_text (codes "no") (f.number ∷ f.place ∷ [])
+fault_text f = line_text (codes "no") (cause_number f.cause ∷ f.place ∷ [])
 
 -- ---- what a text tells
 -- a verdict, as far as a text names it: not which list was too short
@@ -71,7 +72,7 @@ pub record TellsReport (r : Report) (text : List ℕ) : Type 0 where
 
 -- no other number or place has this text, and no verdict
 pub record TellsFault (f : Fault) (text : List ℕ) : Type 0 where
-  pub numbers : (g : Fault) → g.number < 2 ^ 32 → g.place < 2 ^ 32 → text ≡ fault_text g → (f.number ≡ g.number) × (f.place ≡ g.place)
+  pub numbers : (g : Fault) → g.place < 2 ^ 32 → text ≡ fault_text g → (cause_number f.cause ≡ cause_number g.cause) × (f.place ≡ g.place)
   pub no_verdict : (r : Report) (l run : List ℕ) → text ≢ ended_text r l run
 
 -- ---- what is shown of a run

@@ -10,7 +10,7 @@ use checker::{Asked, Ended, Moved, Refused};
 use lists::counted;
 use producer::interface::{Producer, Reply};
 use question::read::variable_count;
-use sheet::fault::{Fault, Layer};
+use sheet::fault::{Cause, Fault, Layer};
 
 // Why a run came to no end: the check was not opened, or an answer was refused, with which the standing check comes back.
 #[derive(Drop)]
@@ -32,7 +32,7 @@ fn unanswered(asked: Asked) -> Refused
 {
     let fault = Fault {
         layer: Layer::Run,
-        number: 61,
+        cause: Cause::NoAnswer,
         place: asked.turns(),
     };
     Refused { asked, fault }

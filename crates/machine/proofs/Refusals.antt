@@ -5,6 +5,7 @@ use Rattle.std.proofs.lemmas.Bool.{cond-true, cond-false, eq-eqb, ne_eqb}
 use Rattle.lists.specs.Counted.{counted, uncounted, on_counted}
 use Rattle.sheet.specs.Render.{well_formed}
 use Rattle.sheet.specs.Sheets.{Legal, sheet_of, input_count, latch_count}
+use Rattle.sheet.specs.declared.fault.Cause.TheVariants.{NotLegal, WrongCount}
 use Rattle.sheet.specs.declared.fault.Fault.{Fault}
 use Rattle.sheet.proofs.Legality.{legal_well_formed}
 use Rattle.signal.specs.Circuit.{Ops}
@@ -30,17 +31,17 @@ module _ {S : Type 0} (o : Ops S) (l : List ℕ) (inputs state : List S) where
   kept e is =
       sym (ap (λ p. (p.0, p.1 ++ uncounted state)) is ∙ ap (λ xs. (Err e, xs)) (take-append-drop (2 ^ 28) state))
 
-  pub not_legal : well_formed l ≡ false → (Err (refusal 21 0), state) ≡ answer
-  not_legal fails = kept (refusal 21 0) (cond-false _ _ _ fails)
+  pub not_legal : well_formed l ≡ false → (Err (refusal NotLegal 0), state) ≡ answer
+  not_legal fails = kept (refusal NotLegal 0) (cond-false _ _ _ fails)
 
   module _ (legal : Legal l) where
-    pub not_a_state : (length state ≡ latch_count l → ⊥) → (Err (refusal 31 0), state) ≡ answer
+    pub not_a_state : (length state ≡ latch_count l → ⊥) → (Err (refusal WrongCount 0), state) ≡ answer
     not_a_state fails =
-        kept (refusal 31 0) (cond-true _ _ _ (legal_well_formed l legal) ∙ cond-false _ _ _ (missized state (latch_count l) legal.few_latches fails))
+        kept (refusal WrongCount 0) (cond-true _ _ _ (legal_well_formed l legal) ∙ cond-false _ _ _ (missized state (latch_count l) legal.few_latches fails))
 
-    pub not_inputs : length state ≡ latch_count l → (length inputs ≡ input_count l → ⊥) → (Err (refusal 31 1), state) ≡ answer
+    pub not_inputs : length state ≡ latch_count l → (length inputs ≡ input_count l → ⊥) → (Err (refusal WrongCount 1), state) ≡ answer
     not_inputs is fails =
-        kept (refusal 31 1)
+        kept (refusal WrongCount 1)
         (cond-true _ _ _ (legal_well_formed l legal) ∙ cond-true _ _ _ (sized state (latch_count l) legal.few_latches is)
         ∙ cond-false _ _ _ (missized inputs (input_count l) legal.few_inputs fails))
 

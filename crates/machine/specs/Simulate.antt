@@ -3,6 +3,7 @@ use Rattle.std.specs.Prelude.{◌≡◌, ℕ, ◌*◌, ◌<◌, Bool, true, fals
 use Rattle.std.specs.List.{range_with_len}
 use Rattle.sheet.specs.Render.{well_formed}
 use Rattle.sheet.specs.Sheets.{Sheet, input_count, latch_count, gate_count, bad_of, next_of, left_place, gate_node}
+use Rattle.sheet.specs.declared.fault.Cause.TheVariants.{NotLegal, WrongCount}
 use Rattle.sheet.specs.declared.fault.Fault.{Fault}
 use Rattle.signal.specs.Circuit.{Ops, node_of, gates_of}
 use Rattle.signal.specs.Truth.{lit}
@@ -39,9 +40,9 @@ module _ {S : Type 0} (o : Ops S) where
       (cond (length state == latch_count l)
       (cond (length inputs == input_count l)
       (Ok (step_signals l inputs state).0, (step_signals l inputs state).1)
-      (Err (refusal 31 1), state))
-      (Err (refusal 31 0), state))
-      (Err (refusal 21 0), state)
+      (Err (refusal WrongCount 1), state))
+      (Err (refusal WrongCount 0), state))
+      (Err (refusal NotLegal 0), state)
 
 -- in lane i, each signal may be its bit
 abbrev pub MayBe : {S : Type 0} → (S → ℕ → Bool → Bool) → ℕ → List S → (ℕ → Bool) → Type 0

@@ -4,17 +4,17 @@
 ghost use Rattle.std.specs.Prelude.{◌≡◌};
 ghost use Rattle.machine.specs.Faults.{refusal};
 
-use sheet::fault::{Fault, Layer};
+use sheet::fault::{Cause, Fault, Layer};
 
 pub mod depth;
 pub mod simulate;
 
-fn refuse(number: u32, place: u32) -> Fault
-    ensures { result ≡ refusal number place }
+fn refuse(cause: Cause, place: u32) -> Fault
+    ensures { result ≡ refusal cause place }
 {
     Fault {
         layer: Layer::Machine,
-        number,
+        cause,
         place,
     }
 }

@@ -9,7 +9,7 @@ ghost use Rattle.machine.specs.Simulate.{operands, next_signals, step_signals, s
 
 use crate::refuse;
 use lists::counted;
-use sheet::fault::Fault;
+use sheet::fault::{Cause, Fault};
 use sheet::literal::Literal;
 use sheet::write::is_legal;
 use signal::{Signal, gate_values};
@@ -105,14 +105,14 @@ pub fn simulate<S: Signal>(sheet: &[u32], state: &mut [S], inputs: &[S]) -> Resu
     ensures those_values_alone_fit_the_gates { OnOk result (ValuesFit (sheet_of (counted sheet.now))) }
 {
     if !is_legal(sheet) {
-        return Err(refuse(21, 0));
+        return Err(refuse(Cause::NotLegal, 0));
     }
     let sheet = counted(sheet);
     if state.len() != sheet[1] as usize {
-        return Err(refuse(31, 0));
+        return Err(refuse(Cause::WrongCount, 0));
     }
     if inputs.len() != sheet[0] as usize {
-        return Err(refuse(31, 1));
+        return Err(refuse(Cause::WrongCount, 1));
     }
     Ok(step(sheet, state, inputs))
 }

@@ -3,6 +3,7 @@ use Rattle.std.proofs.Common.{◌≡◌, ℕ, zero, suc, ◌+◌, ◌-◌, ◌<�
 use Rattle.std.proofs.lemmas.Bool.{cond-true, cond-false, lt-ltb, lt-leb, le-leb, eq-eqb, and_from, cases_lt}
 use Rattle.lists.specs.Counted.{counted}
 use Rattle.sheet.specs.Faults.{and_then, demand}
+use Rattle.sheet.specs.declared.fault.Cause.TheVariants.{WorkTooShort}
 use Rattle.sheet.specs.declared.fault.Fault.{Fault}
 use Rattle.question.specs.Questions.{variable_count, clause_count, span, Clause, IsQuestion}
 use Rattle.answer.specs.Assignments.{judged}
@@ -47,7 +48,7 @@ module _ (q t : List ℕ) (s n : ℕ) (proper : Proper q) (d : ℕ → List ℕ)
       subst (λ v. Resolves (line_before q f.list f.at.end here.first) v here.pivot (d f.at.step)) (line_of_d here.second m.earlier.1)
       (subst (λ v. Resolves v (line_of q d here.second) here.pivot (d f.at.step)) (line_of_d here.first m.earlier.0) m.resolves)
 
-  step_stopped : length f.list < f.at.end + length (d f.at.step) → advanced q f.list here f.at ≡ Err (refused 45 f.at.step)
+  step_stopped : length f.list < f.at.end + length (d f.at.step) → advanced q f.list here f.at ≡ Err (refused WorkTooShort f.at.step)
   step_stopped tight =
       let before : come_before q f.at.step here ≡ true = and_from _ _ (lt-ltb _ _ m.earlier.0) (lt-ltb _ _ m.earlier.1) in
       let free : suited q f.list here f.at ≡ Ok tt =
@@ -56,16 +57,16 @@ module _ (q t : List ℕ) (s n : ℕ) (proper : Proper q) (d : ℕ → List ℕ)
       let is = clause_is q t s n proper f.list f.at f.laid f.steps less d f.same m in
       ap
       (λ r. and_then r
-      (λ _. demand (leb (f.at.end + length (made_by q f.list here f.at.end)) (length f.list)) (refused 45 f.at.step)
+      (λ _. demand (leb (f.at.end + length (made_by q f.list here f.at.end)) (length f.list)) (refused WorkTooShort f.at.step)
       (Ok (onward f.at (f.at.end + length (made_by q f.list here f.at.end))))))
       free
-      ∙ ap (λ v. demand (leb (f.at.end + length v) (length f.list)) (refused 45 f.at.step) (Ok (onward f.at (f.at.end + length v)))) is
+      ∙ ap (λ v. demand (leb (f.at.end + length v) (length f.list)) (refused WorkTooShort f.at.step) (Ok (onward f.at (f.at.end + length v)))) is
       ∙ cond-false _ _ _ (lt-leb _ _ tight)
 
 -- ---- a run follows a derivation as far as there is room
 module _ (q t : List ℕ) (s n : ℕ) (proper : Proper q) (d : ℕ → List ℕ) (makes : MakesAll q t s d) where
   abbrev Stopped : Type 0
-  Stopped = (k : ℕ) × (run q t s (opened n s) (start s) ≡ Err (refused 45 k))
+  Stopped = (k : ℕ) × (run q t s (opened n s) (start s) ≡ Err (refused WorkTooShort k))
 
   one_step : (i : ℕ) → i < s → Followed q t s n d i → Followed q t s n d (suc i) ⊎ Stopped
   one_step i h f =

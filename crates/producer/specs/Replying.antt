@@ -1,6 +1,7 @@
 -- What a reply to a question means. Assumes nothing.
 use Rattle.std.specs.Prelude.{◌≡◌, ℕ, ◌+◌, ◌-◌, ◌*◌, ◌^◌, ◌<◌, Bool, true, ◌⊎◌, List, length, take, Ok, Err, Result}
 use Rattle.lists.specs.Counted.{counted}
+use Rattle.sheet.specs.declared.fault.Cause.TheVariants.{WorkTooShort}
 use Rattle.sheet.specs.declared.fault.Fault.{Fault}
 use Rattle.question.specs.Questions.{variable_count, IsQuestion}
 use Rattle.answer.specs.Assignments.{judged}
@@ -17,7 +18,7 @@ Replies S = S → List ℕ → List ℕ → List ℕ → Reply → List ℕ → 
 -- nothing is wrong with a refutation, unless a step finds no room in the working list
 abbrev pub Stands : Result (Unit {0}) Fault → Type 0
 Stands (Ok _) = Unit {0}
-Stands (Err f) = (i : ℕ) × (f ≡ refused 45 i)
+Stands (Err f) = (i : ℕ) × (f ≡ refused WorkTooShort i)
 
 -- the room that was wanting: v variables, an answer list of n places and a working list of m
 abbrev pub Wanting : ℕ → ℕ → ℕ → Type 0

@@ -1,5 +1,6 @@
 -- A text that is read to a list is the text of that list. Assumes nothing.
 use Rattle.std.proofs.Common.{◌≡◌, ℕ, zero, suc, ◌+◌, ◌*◌, ◌<◌, ◌≤◌, true, ◌&&◌, eqb, ltb, leb, List, [], ◌∷◌, ◌++◌, length, take, drop, replicate, Some, Ok, sym, refl, ap, ◌∙◌, subst, ⊎_elim, add-one, arith}
+use Rattle.sheet.specs.declared.fault.Cause.TheVariants.{TextTooLong, LineNotEnded, WrongLetter, NotNumbers, OutOfRange, OutOfOrder, TextGoesOn}
 use Rattle.std.proofs.lemmas.List.{append_assoc, append-nil, length-append, take-append-drop, drop-drop, drop_at, nil_from_length}
 use Rattle.std.proofs.lemmas.Bool.{cond-true, cond-false, eq-eqb, ne_eqb, eqb-true, ltb-true, leb-true, and_from, and_parts, cases_eq}
 use Rattle.sheet.specs.declared.line.Due.{Due}
@@ -28,7 +29,7 @@ up_to_found c (x ∷ t) h =
 line_of_inv : (p : ℕ) (t : List ℕ) (l : List ℕ × List ℕ) → line_of p t ≡ Ok l → t ≡ l.0 ++ (10 ∷ l.1)
 line_of_inv p t l h =
     let k = up_to 10 t in
-    let q = demand_inv (ltb k (length t)) (refusal 12 p) (Ok (take k t, drop (k + 1) t)) l h in
+    let q = demand_inv (ltb k (length t)) (refusal LineNotEnded p) (Ok (take k t, drop (k + 1) t)) l h in
     up_to_found 10 t (ltb-true _ _ q.0)
     ∙ ap (λ j. take k t ++ (10 ∷ drop j t)) (sym (add-one k))
     ∙ ap (λ (l : List ℕ × List ℕ). l.0 ++ (10 ∷ l.1)) (ok_same _ _ q.1)
@@ -110,7 +111,7 @@ read_contents_inv : (t : List ℕ) (y : ℕ × ℕ × ℕ × List ℕ) → read_
 read_contents_inv t y h =
     let s₁ = and_then_inv (line_of 1 t) contents_from y h in
     let l = s₁.0 in
-    let s₂ = and_then_inv (given (triples_if 99 l.0) (refusal 13 1)) (contents_of l.1) y s₁.1.1 in
+    let s₂ = and_then_inv (given (triples_if 99 l.0) (refusal WrongLetter 1)) (contents_of l.1) y s₁.1.1 in
     let s = s₂.0 in
     let s₃ = and_then_inv (number_of 1 s.0) (λ i. and_then (number_of 1 s.1) (λ n. and_then (number_of 1 s.2) (λ m. contents_if l.1 i n m))) y s₂.1.1 in
     let i = s₃.0 in
@@ -118,11 +119,11 @@ read_contents_inv t y h =
     let n = s₄.0 in
     let s₅ = and_then_inv (number_of 1 s.2) (λ m. contents_if l.1 i n m) y s₄.1.1 in
     let m = s₅.0 in
-    let s₆ = demand_inv (leb i 24 && (leb 1 n && (leb n 24 && leb m 200))) (refusal 15 1) (Ok (i, n, m, l.1)) y s₅.1.1 in
-    let di = spelled_inv s.0 i (given_inv (spelled s.0) (refusal 14 1) i s₃.1.0) in
-    let dn = spelled_inv s.1 n (given_inv (spelled s.1) (refusal 14 1) n s₄.1.0) in
-    let dm = spelled_inv s.2 m (given_inv (spelled s.2) (refusal 14 1) m s₅.1.0) in
-    let parts = triples_if_inv 99 l.0 s (given_inv (triples_if 99 l.0) (refusal 13 1) s s₂.1.0) di.some dn.some dm.some in
+    let s₆ = demand_inv (leb i 24 && (leb 1 n && (leb n 24 && leb m 200))) (refusal OutOfRange 1) (Ok (i, n, m, l.1)) y s₅.1.1 in
+    let di = spelled_inv s.0 i (given_inv (spelled s.0) (refusal NotNumbers 1) i s₃.1.0) in
+    let dn = spelled_inv s.1 n (given_inv (spelled s.1) (refusal NotNumbers 1) n s₄.1.0) in
+    let dm = spelled_inv s.2 m (given_inv (spelled s.2) (refusal NotNumbers 1) m s₅.1.0) in
+    let parts = triples_if_inv 99 l.0 s (given_inv (triples_if 99 l.0) (refusal WrongLetter 1) s s₂.1.0) di.some dn.some dm.some in
     let line = line_of_inv 1 t l s₁.1.0 ∙ ap (λ k. k ++ (10 ∷ l.1)) parts in
     contents_read t s.0 s.1 s.2 l.1 i n m line di.is dn.is dm.is s₆.0 y (ok_same (i, n, m, l.1) y s₆.1)
 
@@ -141,17 +142,17 @@ read_pair_inv d most own p t y h =
     let x = letter d in
     let s₁ = and_then_inv (line_of p t) (pair_from d most own p) y h in
     let l = s₁.0 in
-    let s₂ = and_then_inv (given (parts_if x l.0) (refusal 13 p)) (pair_of d most own p l.1) y s₁.1.1 in
+    let s₂ = and_then_inv (given (parts_if x l.0) (refusal WrongLetter p)) (pair_of d most own p l.1) y s₁.1.1 in
     let s = s₂.0 in
     let s₃ = and_then_inv (number_of p s.0) (λ a. and_then (number_of p s.1) (λ b. pair_if d most own p l.1 a b)) y s₂.1.1 in
     let a = s₃.0 in
     let s₄ = and_then_inv (number_of p s.1) (λ b. pair_if d most own p l.1 a b) y s₃.1.1 in
     let b = s₄.0 in
-    let s₅ = demand_inv (in_range d most a b) (refusal 15 p) (demand (ordered d own a b) (refusal 16 p) (Ok (a, b, l.1))) y s₄.1.1 in
-    let s₆ = demand_inv (ordered d own a b) (refusal 16 p) (Ok (a, b, l.1)) y s₅.1 in
-    let da = spelled_inv s.0 a (given_inv (spelled s.0) (refusal 14 p) a s₃.1.0) in
-    let db = spelled_inv s.1 b (given_inv (spelled s.1) (refusal 14 p) b s₄.1.0) in
-    let parts = parts_if_inv x l.0 s (given_inv (parts_if x l.0) (refusal 13 p) s s₂.1.0) da.some db.some in
+    let s₅ = demand_inv (in_range d most a b) (refusal OutOfRange p) (demand (ordered d own a b) (refusal OutOfOrder p) (Ok (a, b, l.1))) y s₄.1.1 in
+    let s₆ = demand_inv (ordered d own a b) (refusal OutOfOrder p) (Ok (a, b, l.1)) y s₅.1 in
+    let da = spelled_inv s.0 a (given_inv (spelled s.0) (refusal NotNumbers p) a s₃.1.0) in
+    let db = spelled_inv s.1 b (given_inv (spelled s.1) (refusal NotNumbers p) b s₄.1.0) in
+    let parts = parts_if_inv x l.0 s (given_inv (parts_if x l.0) (refusal WrongLetter p) s s₂.1.0) da.some db.some in
     let line = line_of_inv p t l s₁.1.0 ∙ ap (λ k. k ++ (10 ∷ l.1)) parts in
     pair_read d most own t s.0 s.1 l.1 a b line da.is db.is s₅.0 s₆.0 y (ok_same (a, b, l.1) y s₆.1)
 
@@ -206,13 +207,13 @@ read_bad_inv : (most p : ℕ) (t : List ℕ) (y : ℕ × List ℕ) → read_bad 
 read_bad_inv most p t y h =
     let s₁ = and_then_inv (line_of p t) (bad_from most p) y h in
     let l = s₁.0 in
-    let s₂ = and_then_inv (given (part_if 98 l.0) (refusal 13 p)) (bad_by most p l.1) y s₁.1.1 in
+    let s₂ = and_then_inv (given (part_if 98 l.0) (refusal WrongLetter p)) (bad_by most p l.1) y s₁.1.1 in
     let s = s₂.0 in
     let s₃ = and_then_inv (number_of p s) (bad_if most p l.1) y s₂.1.1 in
     let a = s₃.0 in
-    let s₄ = demand_inv (leb a most) (refusal 15 p) (Ok (a, l.1)) y s₃.1.1 in
-    let da = spelled_inv s a (given_inv (spelled s) (refusal 14 p) a s₃.1.0) in
-    let part = part_if_inv 98 l.0 s (given_inv (part_if 98 l.0) (refusal 13 p) s s₂.1.0) da.some in
+    let s₄ = demand_inv (leb a most) (refusal OutOfRange p) (Ok (a, l.1)) y s₃.1.1 in
+    let da = spelled_inv s a (given_inv (spelled s) (refusal NotNumbers p) a s₃.1.0) in
+    let part = part_if_inv 98 l.0 s (given_inv (part_if 98 l.0) (refusal WrongLetter p) s s₂.1.0) da.some in
     let line = line_of_inv p t l s₁.1.0 ∙ ap (λ k. k ++ (10 ∷ l.1)) part in
     bad_read most t s l.1 a line da.is s₄.0 y (ok_same (a, l.1) y s₄.1)
 
@@ -316,7 +317,7 @@ lines_read t xs z h =
     let s₃ = and_then_inv (read_pairs m OfGate most (1 + i + n) s₂.0.0 (2 + n) s₂.0.1) (gates_of i n m) xs s₂.1.1 in
     let s₄ = and_then_inv (read_bad most (2 + n + m) s₃.0.1) (last_of i n m s₃.0.0) xs s₃.1.1 in
     let bad = s₄.0.0 in
-    let s₅ = demand_inv (eqb (length s₄.0.1) 0) (refusal 17 (3 + n + m)) (Ok (i ∷ n ∷ m ∷ bad ∷ s₃.0.0)) xs s₄.1.1 in
+    let s₅ = demand_inv (eqb (length s₄.0.1) 0) (refusal TextGoesOn (3 + n + m)) (Ok (i ∷ n ∷ m ∷ bad ∷ s₃.0.0)) xs s₄.1.1 in
     let head = read_contents_inv t s₁.0 s₁.1.0 in
     let ls = read_pairs_inv n OfLatch most (1 + i) [] 2 s₁.0.3 s₂.0 s₂.1.0 in
     let gs = read_pairs_inv m OfGate most (1 + i + n) s₂.0.0 (2 + n) s₂.0.1 s₃.0 s₃.1.0 in
@@ -324,4 +325,4 @@ lines_read t xs z h =
     parts_read i n m bad t s₁.0.3 s₂.0.0 s₂.0.1 s₃.0.0 s₃.0.1 s₄.0.1 z head ls gs bd s₅.0 xs (ok_same (i ∷ n ∷ m ∷ bad ∷ s₃.0.0) xs s₅.1)
 
 pub again : (t xs : List ℕ) (z : ℕ) → parse t ≡ Ok xs → Read t xs z
-again t xs z h = lines_read t xs z (demand_inv (leb (length t) 4096) (refusal 11 0) (parse_lines t) xs h).1
+again t xs z h = lines_read t xs z (demand_inv (leb (length t) 4096) (refusal TextTooLong 0) (parse_lines t) xs h).1

@@ -1,3 +1,4 @@
+pub mod Causes
 mod ReadParts
 mod ReadLines
 mod ReadStored

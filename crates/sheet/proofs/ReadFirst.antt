@@ -3,6 +3,8 @@ use Rattle.std.proofs.Common.{◌≡◌, ℕ, zero, suc, ◌+◌, ◌-◌, ◌�
 use Rattle.std.proofs.lemmas.List.{append-nil, length-append, length-take}
 use Rattle.std.proofs.lemmas.Bool.{cond-true, cond-false, lt-ltb, le-leb, leb-true, leb-false, ne_eqb, and_from, and_parts, cases_Bool}
 use Rattle.lists.specs.Counted.{counted}
+use Rattle.sheet.specs.declared.fault.Cause.{Cause}
+use Rattle.sheet.specs.declared.fault.Cause.TheVariants.{TextTooLong, WrongLetter, NotNumbers, OutOfRange, OutOfOrder, TextGoesOn}
 use Rattle.sheet.specs.declared.fault.Fault.{Fault}
 use Rattle.sheet.specs.declared.line.Due.{Due}
 use Rattle.sheet.specs.declared.line.Due.TheVariants.{OfLatch, OfGate}
@@ -20,72 +22,72 @@ use Rattle.sheet.proofs.ReadSteps.{Free, Departs, Lined, err_same, step, Placed,
 
 -- what a line gives, read by itself
 abbrev pub contents_in : ℕ → ℕ → ℕ → Result (ℕ × ℕ × ℕ) Fault
-contents_in i n m = demand (leb i 24 && (leb 1 n && (leb n 24 && leb m 200))) (refusal 15 1) (Ok (i, n, m))
+contents_in i n m = demand (leb i 24 && (leb 1 n && (leb n 24 && leb m 200))) (refusal OutOfRange 1) (Ok (i, n, m))
 
 abbrev pub contents_by : List ℕ × List ℕ × List ℕ → Result (ℕ × ℕ × ℕ) Fault
 contents_by s =
     and_then (number_of 1 s.0) (λ i. and_then (number_of 1 s.1) (λ n. and_then (number_of 1 s.2) (λ m. contents_in i n m)))
 
 abbrev pub contents_on : List ℕ → Result (ℕ × ℕ × ℕ) Fault
-contents_on x = and_then (given (triples_if 99 x) (refusal 13 1)) contents_by
+contents_on x = and_then (given (triples_if 99 x) (refusal WrongLetter 1)) contents_by
 
 abbrev pub pair_in : Due → ℕ → ℕ → ℕ → ℕ → ℕ → Result (ℕ × ℕ) Fault
 pair_in d most own p a b =
-    demand (in_range d most a b) (refusal 15 p) (demand (ordered d own a b) (refusal 16 p) (Ok (a, b)))
+    demand (in_range d most a b) (refusal OutOfRange p) (demand (ordered d own a b) (refusal OutOfOrder p) (Ok (a, b)))
 
 abbrev pub pair_by : Due → ℕ → ℕ → ℕ → List ℕ × List ℕ → Result (ℕ × ℕ) Fault
 pair_by d most own p s = and_then (number_of p s.0) (λ a. and_then (number_of p s.1) (λ b. pair_in d most own p a b))
 
 abbrev pub pair_on : Due → ℕ → ℕ → ℕ → List ℕ → Result (ℕ × ℕ) Fault
-pair_on d most own p x = and_then (given (parts_if (letter d) x) (refusal 13 p)) (pair_by d most own p)
+pair_on d most own p x = and_then (given (parts_if (letter d) x) (refusal WrongLetter p)) (pair_by d most own p)
 
 abbrev pub bad_in : ℕ → ℕ → ℕ → Result ℕ Fault
-bad_in most p a = demand (leb a most) (refusal 15 p) (Ok a)
+bad_in most p a = demand (leb a most) (refusal OutOfRange p) (Ok a)
 
 abbrev pub bad_on : ℕ → ℕ → List ℕ → Result ℕ Fault
-bad_on most p x = and_then (given (part_if 98 x) (refusal 13 p)) (λ s. and_then (number_of p s) (bad_in most p))
+bad_on most p x = and_then (given (part_if 98 x) (refusal WrongLetter p)) (λ s. and_then (number_of p s) (bad_in most p))
 
 -- with what follows the line put to it, that is what the format reads
 under : {Y Z : Type 0} (b : Bool) (e : Fault) (r : Result Y Fault) (s : Result Z Fault) (k : Y → Result Z Fault) → s ≡ and_then r k → demand b e s ≡ and_then (demand b e r) k
 under true e r s k h = h
 under false e r s k h = refl
 
-contents_numbers : (r : List ℕ) (a b c : Option ℕ) → and_then (given a (refusal 14 1)) (λ i. and_then (given b (refusal 14 1)) (λ n. and_then (given c (refusal 14 1)) (λ m. contents_if r i n m))) ≡ and_then (and_then (given a (refusal 14 1)) (λ i. and_then (given b (refusal 14 1)) (λ n. and_then (given c (refusal 14 1)) (λ m. contents_in i n m)))) (λ v. Ok (v.0, v.1, v.2, r))
+contents_numbers : (r : List ℕ) (a b c : Option ℕ) → and_then (given a (refusal NotNumbers 1)) (λ i. and_then (given b (refusal NotNumbers 1)) (λ n. and_then (given c (refusal NotNumbers 1)) (λ m. contents_if r i n m))) ≡ and_then (and_then (given a (refusal NotNumbers 1)) (λ i. and_then (given b (refusal NotNumbers 1)) (λ n. and_then (given c (refusal NotNumbers 1)) (λ m. contents_in i n m)))) (λ v. Ok (v.0, v.1, v.2, r))
 contents_numbers r None b c = refl
 contents_numbers r (Some i) None c = refl
 contents_numbers r (Some i) (Some n) None = refl
 contents_numbers r (Some i) (Some n) (Some m) =
-    under (leb i 24 && (leb 1 n && (leb n 24 && leb m 200))) (refusal 15 1) (Ok (i, n, m)) (Ok (i, n, m, r)) (λ v. Ok (v.0, v.1, v.2, r)) refl
+    under (leb i 24 && (leb 1 n && (leb n 24 && leb m 200))) (refusal OutOfRange 1) (Ok (i, n, m)) (Ok (i, n, m, r)) (λ v. Ok (v.0, v.1, v.2, r)) refl
 
-contents_parts : (r : List ℕ) (o : Option (List ℕ × List ℕ × List ℕ)) → and_then (given o (refusal 13 1)) (contents_of r) ≡ and_then (and_then (given o (refusal 13 1)) contents_by) (λ v. Ok (v.0, v.1, v.2, r))
+contents_parts : (r : List ℕ) (o : Option (List ℕ × List ℕ × List ℕ)) → and_then (given o (refusal WrongLetter 1)) (contents_of r) ≡ and_then (and_then (given o (refusal WrongLetter 1)) contents_by) (λ v. Ok (v.0, v.1, v.2, r))
 contents_parts r None = refl
 contents_parts r (Some s) = contents_numbers r (spelled s.0) (spelled s.1) (spelled s.2)
 
 contents_one : (l : List ℕ × List ℕ) → contents_from l ≡ and_then (contents_on l.0) (λ v. Ok (v.0, v.1, v.2, l.1))
 contents_one l = contents_parts l.1 (triples_if 99 l.0)
 
-pair_numbers : (d : Due) (most own p : ℕ) (r : List ℕ) (a b : Option ℕ) → and_then (given a (refusal 14 p)) (λ a. and_then (given b (refusal 14 p)) (λ b. pair_if d most own p r a b)) ≡ and_then (and_then (given a (refusal 14 p)) (λ a. and_then (given b (refusal 14 p)) (λ b. pair_in d most own p a b))) (λ v. Ok (v.0, v.1, r))
+pair_numbers : (d : Due) (most own p : ℕ) (r : List ℕ) (a b : Option ℕ) → and_then (given a (refusal NotNumbers p)) (λ a. and_then (given b (refusal NotNumbers p)) (λ b. pair_if d most own p r a b)) ≡ and_then (and_then (given a (refusal NotNumbers p)) (λ a. and_then (given b (refusal NotNumbers p)) (λ b. pair_in d most own p a b))) (λ v. Ok (v.0, v.1, r))
 pair_numbers d most own p r None b = refl
 pair_numbers d most own p r (Some a) None = refl
 pair_numbers d most own p r (Some a) (Some b) =
     let ok : Result (ℕ × ℕ) Fault = Ok (a, b) in
     let whole : Result (ℕ × ℕ × List ℕ) Fault = Ok (a, b, r) in
     let order = ordered d own a b in
-    under (in_range d most a b) (refusal 15 p) (demand order (refusal 16 p) ok) (demand order (refusal 16 p) whole) (λ v. Ok (v.0, v.1, r))
-    (under order (refusal 16 p) ok whole (λ v. Ok (v.0, v.1, r)) refl)
+    under (in_range d most a b) (refusal OutOfRange p) (demand order (refusal OutOfOrder p) ok) (demand order (refusal OutOfOrder p) whole) (λ v. Ok (v.0, v.1, r))
+    (under order (refusal OutOfOrder p) ok whole (λ v. Ok (v.0, v.1, r)) refl)
 
-pair_parts : (d : Due) (most own p : ℕ) (r : List ℕ) (o : Option (List ℕ × List ℕ)) → and_then (given o (refusal 13 p)) (pair_of d most own p r) ≡ and_then (and_then (given o (refusal 13 p)) (pair_by d most own p)) (λ v. Ok (v.0, v.1, r))
+pair_parts : (d : Due) (most own p : ℕ) (r : List ℕ) (o : Option (List ℕ × List ℕ)) → and_then (given o (refusal WrongLetter p)) (pair_of d most own p r) ≡ and_then (and_then (given o (refusal WrongLetter p)) (pair_by d most own p)) (λ v. Ok (v.0, v.1, r))
 pair_parts d most own p r None = refl
 pair_parts d most own p r (Some s) = pair_numbers d most own p r (spelled s.0) (spelled s.1)
 
 pair_one : (d : Due) (most own p : ℕ) (l : List ℕ × List ℕ) → pair_from d most own p l ≡ and_then (pair_on d most own p l.0) (λ v. Ok (v.0, v.1, l.1))
 pair_one d most own p l = pair_parts d most own p l.1 (parts_if (letter d) l.0)
 
-bad_number : (most p : ℕ) (r : List ℕ) (a : Option ℕ) → and_then (given a (refusal 14 p)) (bad_if most p r) ≡ and_then (and_then (given a (refusal 14 p)) (bad_in most p)) (λ v. Ok (v, r))
+bad_number : (most p : ℕ) (r : List ℕ) (a : Option ℕ) → and_then (given a (refusal NotNumbers p)) (bad_if most p r) ≡ and_then (and_then (given a (refusal NotNumbers p)) (bad_in most p)) (λ v. Ok (v, r))
 bad_number most p r None = refl
-bad_number most p r (Some a) = under (leb a most) (refusal 15 p) (Ok a) (Ok (a, r)) (λ v. Ok (v, r)) refl
+bad_number most p r (Some a) = under (leb a most) (refusal OutOfRange p) (Ok a) (Ok (a, r)) (λ v. Ok (v, r)) refl
 
-bad_part : (most p : ℕ) (r : List ℕ) (o : Option (List ℕ)) → and_then (given o (refusal 13 p)) (bad_by most p r) ≡ and_then (and_then (given o (refusal 13 p)) (λ s. and_then (number_of p s) (bad_in most p))) (λ v. Ok (v, r))
+bad_part : (most p : ℕ) (r : List ℕ) (o : Option (List ℕ)) → and_then (given o (refusal WrongLetter p)) (bad_by most p r) ≡ and_then (and_then (given o (refusal WrongLetter p)) (λ s. and_then (number_of p s) (bad_in most p))) (λ v. Ok (v, r))
 bad_part most p r None = refl
 bad_part most p r (Some s) = bad_number most p r (spelled s)
 
@@ -123,7 +125,7 @@ lined_as : {Y : Type 0} (j : ℕ) (F G : List ℕ → Result Y Fault) → ((t : 
 lined_as j F G h g = let same : G ≡ F = λ i t. sym (h t) i in subst (Lined j) same g
 
 -- each refusal of a line has its place
-placed_given : {X : Type 0} (o : Option X) (n p : ℕ) → Placed p (given o (refusal n p))
+placed_given : {X : Type 0} (o : Option X) (n : Cause) (p : ℕ) → Placed p (given o (refusal n p))
 placed_given None n p = refl
 placed_given (Some x) n p = tt
 
@@ -131,29 +133,29 @@ placed_then : {X Y : Type 0} (p : ℕ) (r : Result X Fault) (f : X → Result Y 
 placed_then p (Ok x) f a b = b x
 placed_then p (Err e) f a b = a
 
-placed_demand : {X : Type 0} (b : Bool) (n p : ℕ) (r : Result X Fault) → Placed p r → Placed p (demand b (refusal n p) r)
+placed_demand : {X : Type 0} (b : Bool) (n : Cause) (p : ℕ) (r : Result X Fault) → Placed p r → Placed p (demand b (refusal n p) r)
 placed_demand true n p r h = h
 placed_demand false n p r h = refl
 
 contents_placed : (x : List ℕ) → Placed 1 (contents_on x)
 contents_placed x =
-    placed_then 1 (given (triples_if 99 x) (refusal 13 1)) _ (placed_given (triples_if 99 x) 13 1)
-    (λ s. placed_then 1 (number_of 1 s.0) _ (placed_given _ 14 1)
-    (λ i. placed_then 1 (number_of 1 s.1) _ (placed_given _ 14 1)
-    (λ n. placed_then 1 (number_of 1 s.2) _ (placed_given _ 14 1)
-    (λ m. placed_demand (leb i 24 && (leb 1 n && (leb n 24 && leb m 200))) 15 1 _ tt))))
+    placed_then 1 (given (triples_if 99 x) (refusal WrongLetter 1)) _ (placed_given (triples_if 99 x) WrongLetter 1)
+    (λ s. placed_then 1 (number_of 1 s.0) _ (placed_given _ NotNumbers 1)
+    (λ i. placed_then 1 (number_of 1 s.1) _ (placed_given _ NotNumbers 1)
+    (λ n. placed_then 1 (number_of 1 s.2) _ (placed_given _ NotNumbers 1)
+    (λ m. placed_demand (leb i 24 && (leb 1 n && (leb n 24 && leb m 200))) OutOfRange 1 _ tt))))
 
 pair_placed : (d : Due) (most own p : ℕ) (x : List ℕ) → Placed p (pair_on d most own p x)
 pair_placed d most own p x =
-    placed_then p (given (parts_if (letter d) x) (refusal 13 p)) _ (placed_given (parts_if (letter d) x) 13 p)
-    (λ s. placed_then p (number_of p s.0) _ (placed_given _ 14 p)
-    (λ a. placed_then p (number_of p s.1) _ (placed_given _ 14 p)
-    (λ b. placed_demand (in_range d most a b) 15 p _ (placed_demand (ordered d own a b) 16 p _ tt))))
+    placed_then p (given (parts_if (letter d) x) (refusal WrongLetter p)) _ (placed_given (parts_if (letter d) x) WrongLetter p)
+    (λ s. placed_then p (number_of p s.0) _ (placed_given _ NotNumbers p)
+    (λ a. placed_then p (number_of p s.1) _ (placed_given _ NotNumbers p)
+    (λ b. placed_demand (in_range d most a b) OutOfRange p _ (placed_demand (ordered d own a b) OutOfOrder p _ tt))))
 
 bad_placed : (most p : ℕ) (x : List ℕ) → Placed p (bad_on most p x)
 bad_placed most p x =
-    placed_then p (given (part_if 98 x) (refusal 13 p)) _ (placed_given (part_if 98 x) 13 p)
-    (λ s. placed_then p (number_of p s) _ (placed_given _ 14 p) (λ a. placed_demand (leb a most) 15 p _ tt))
+    placed_then p (given (part_if 98 x) (refusal WrongLetter p)) _ (placed_given (part_if 98 x) WrongLetter p)
+    (λ s. placed_then p (number_of p s) _ (placed_given _ NotNumbers p) (λ a. placed_demand (leb a most) OutOfRange p _ tt))
 
 -- a line that is right whatever stands before it: a latch that stays 0, a gate of node 1 and the constant
 abbrev plain : Due → List ℕ
@@ -203,23 +205,23 @@ lined_bad most p k next =
 
 -- nothing follows
 abbrev nothing : ℕ → List ℕ → List ℕ → Result (List ℕ) Fault
-nothing p y r = demand (eqb (length r) 0) (refusal 17 p) (Ok y)
+nothing p y r = demand (eqb (length r) 0) (refusal TextGoesOn p) (Ok y)
 
 first_some : (x : ℕ) (t : List ℕ) → first_lines 1 (x ∷ t) ≡ [] → ⊥
 first_some x t e =
     omega (arith, ap length e, length-append (take (up_to 10 (x ∷ t) + 1) (x ∷ t)) [], length-take (up_to 10 (x ∷ t) + 1) (x ∷ t))
 
-nothing_some : (p x : ℕ) (y t : List ℕ) → nothing p y (x ∷ t) ≡ Err (refusal 17 p)
+nothing_some : (p x : ℕ) (y t : List ℕ) → nothing p y (x ∷ t) ≡ Err (refusal TextGoesOn p)
 nothing_some p x y t = cond-false _ _ _ (ne_eqb (length (x ∷ t)) 0 (λ e. omega arith))
 
-nothing_wrong : (p x : ℕ) (y t u : List ℕ) → first_lines 1 (x ∷ t) ≡ first_lines 1 u → nothing p y u ≡ Err (refusal 17 p)
+nothing_wrong : (p x : ℕ) (y t u : List ℕ) → first_lines 1 (x ∷ t) ≡ first_lines 1 u → nothing p y u ≡ Err (refusal TextGoesOn p)
 nothing_wrong p x y t [] e = absurd (first_some x t e)
 nothing_wrong p x y t (z ∷ u) e = nothing_some p z y u
 
 nothing_departs : (j p : ℕ) (y : List ℕ) → p ≡ j → (t : List ℕ) (e : Fault) → nothing p y t ≡ Err e → Departs (nothing p y) j t e
 nothing_departs j p y at [] e h = absurd (err_not e y (sym h))
 nothing_departs j p y at (x ∷ t) e h =
-    let is : refusal 17 p ≡ e = err_same _ _ (sym (nothing_some p x y t) ∙ h) in
+    let is : refusal TextGoesOn p ≡ e = err_same _ _ (sym (nothing_some p x y t) ∙ h) in
     let place : p ≡ e.place = ap (λ (f : Fault). f.place) is in
     record {
       before = 0;
@@ -244,7 +246,7 @@ lined_rest i n m some =
 
 pub some_latch : (x : List ℕ) (c : ℕ × ℕ × ℕ) → contents_on x ≡ Ok c → 1 ≤ c.1
 some_latch x c h =
-    let s₁ = and_then_inv (given (triples_if 99 x) (refusal 13 1)) _ c h in
+    let s₁ = and_then_inv (given (triples_if 99 x) (refusal WrongLetter 1)) _ c h in
     let s = s₁.0 in
     let s₂ = and_then_inv (number_of 1 s.0) _ c s₁.1.1 in
     let i = s₂.0 in
@@ -252,7 +254,7 @@ some_latch x c h =
     let n = s₃.0 in
     let s₄ = and_then_inv (number_of 1 s.2) _ c s₃.1.1 in
     let m = s₄.0 in
-    let s₅ = demand_inv (leb i 24 && (leb 1 n && (leb n 24 && leb m 200))) (refusal 15 1) (Ok (i, n, m)) c s₄.1.1 in
+    let s₅ = demand_inv (leb i 24 && (leb 1 n && (leb n 24 && leb m 200))) (refusal OutOfRange 1) (Ok (i, n, m)) c s₄.1.1 in
     let low = (and_parts (leb 1 n) (leb n 24 && leb m 200) (and_parts (leb i 24) _ s₅.0).1).0 in
     let P : ℕ × ℕ × ℕ → Type 0 = λ c. 1 ≤ c.1 in
     subst P (ok_same (i, n, m) c s₅.1) (leb-true 1 n low)
@@ -273,7 +275,7 @@ legal_of u l h =
 
 pub lines_of : (l : List ℕ) → Legal l → parse_lines (text_of l) ≡ Ok (take (size_of l) l)
 lines_of l h =
-    (demand_inv (leb (length (text_of l)) 4096) (refusal 11 0) (parse_lines (text_of l)) _ (there l (legal_well_formed l h))).1
+    (demand_inv (leb (length (text_of l)) 4096) (refusal TextTooLong 0) (parse_lines (text_of l)) _ (there l (legal_well_formed l h))).1
 
 wrong_line : (t : List ℕ) (f : Fault) → parse_lines t ≡ Err f → (1 ≤ f.place) × Begins (f.place - 1) t × (Begins f.place t → ⊥)
 wrong_line t f h =
@@ -289,19 +291,19 @@ wrong_line t f h =
       λ w. err_not f _ (sym (d.wrong (text_of w.0) (subst (λ q. first_lines q t ≡ first_lines q (text_of w.0)) here w.2)) ∙ lines_of w.0 w.1),
     )
 
-pub first_wrong : (t : List ℕ) (f : Fault) → parse t ≡ Err f → FirstWrongLine t f.number f.place
+pub first_wrong : (t : List ℕ) (f : Fault) → parse t ≡ Err f → FirstWrongLine t f.cause f.place
 first_wrong t f h =
     ⊎_elim
     (λ b. inr (wrong_line t f (sym (cond-true _ _ _ b) ∙ h)))
     (λ b.
-    let is : refusal 11 0 ≡ f = err_same _ _ (sym (cond-false _ _ _ b) ∙ h) in
-    inl (ap (λ (f : Fault). f.number) (sym is), ap (λ (f : Fault). f.place) (sym is), leb-false (length t) 4096 b))
+    let is : refusal TextTooLong 0 ≡ f = err_same _ _ (sym (cond-false _ _ _ b) ∙ h) in
+    inl (ap (λ (f : Fault). f.cause) (sym is), ap (λ (f : Fault). f.place) (sym is), leb-false (length t) 4096 b))
     (cases_Bool (leb (length t) 4096))
 
 judged_by : (t old : List ℕ) (q : Result (List ℕ) Fault) (r : Result ℕ Fault) → parse t ≡ q → r ≡ (stored q old).0 → Judged t r
 judged_by t old (Err f) r h is = subst (Judged t) (sym is) (inr (first_wrong t f h))
 judged_by t old (Ok l) r h is =
-    let legal = legal_of t l (demand_inv (leb (length t) 4096) (refusal 11 0) (parse_lines t) l h).1 in
+    let legal = legal_of t l (demand_inv (leb (length t) 4096) (refusal TextTooLong 0) (parse_lines t) l h).1 in
     let result = λ (p : Result ℕ Fault × List ℕ). p.0 in
     ⊎_elim
     (λ b. subst (Judged t) (sym (is ∙ ap result (cond-true _ _ _ b))) (l, legal.0, legal.1))

@@ -1,5 +1,6 @@
 -- At most one number has a reason at a line. Assumes nothing.
 use Rattle.std.proofs.Common.{◌≡◌, ℕ, suc, ◌+◌, ◌-◌, List, [], ◌∷◌, ◌++◌, get_or, sym, refl, ap, ◌∙◌, subst, inl, inr, ⊎_elim, arith}
+use Rattle.sheet.specs.declared.fault.Cause.{Cause}
 use Rattle.sheet.specs.Sheets.{latch_count, gate_count}
 use Rattle.sheet.specs.Reasons.{after_lines, Kind, contents_line, latch_line, gate_line, bad_line, letter_of, numbers_in, IsLine, HasEnd, Says, Wrong, not_ended, other_letter, no_numbers, out_of_range, out_of_order, Reason, InRange, InOrder}
 use Rattle.sheet.proofs.ReadSteps.{Free, Ended, split, first_open}
@@ -48,7 +49,7 @@ says_same k s ns ms h g =
     ∙ numbers_given j ms (g.as_many ∙ many) g.three_digits)
 
 -- one line is not wrong for two reasons
-module _ (l : List ℕ) (k : Kind) (s : List ℕ) (n m : ℕ) where
+module _ (l : List ℕ) (k : Kind) (s : List ℕ) (n m : Cause) where
   range_same : (ns ms : List ℕ) → Says k s ns → Says k s ms → InRange l k ns → InRange l k ms
   range_same ns ms h g = subst (InRange l k) (says_same k s ns ms h g)
 
@@ -108,9 +109,9 @@ not_behind l p (latch_line i) h at = omega (arith, h.0, h.1)
 not_behind l p (gate_line g) h at = omega (arith, h.0, h.1)
 not_behind l p bad_line h at = omega arith
 
-pub reason_once : (t l : List ℕ) (n m p : ℕ) → Reason t l n p → Reason t l m p → n ≡ m
+pub reason_once : (t l : List ℕ) (n m : Cause) (p : ℕ) → Reason t l n p → Reason t l m p → n ≡ m
 reason_once t l n m p (inl v) (inl w) =
     wrong_once l w.0 (after_lines (p - 1) t) n m (subst (λ k. Wrong l k (after_lines (p - 1) t) n) (kind_once l p v.0 w.0 v.1 w.1) v.2) w.2
 reason_once t l n m p (inl v) (inr w) = absurd (not_behind l p v.0 v.1 w.place)
 reason_once t l n m p (inr v) (inl w) = absurd (not_behind l p w.0 w.1 v.place)
-reason_once t l n m p (inr v) (inr w) = v.number ∙ sym w.number
+reason_once t l n m p (inr v) (inr w) = v.cause ∙ sym w.cause

@@ -3,6 +3,8 @@ use Rattle.std.proofs.Common.{◌≡◌, ℕ, zero, suc, ◌+◌, ◌-◌, ◌*�
 use Rattle.std.proofs.lemmas.List.{append_assoc, append-nil, get_or-take}
 use Rattle.std.proofs.lemmas.Bool.{cond-true, cond-false, eqb-false, cases_Bool}
 use Rattle.lists.specs.Counted.{counted}
+use Rattle.sheet.specs.declared.fault.Cause.{Cause}
+use Rattle.sheet.specs.declared.fault.Cause.TheVariants.{TextTooLong, LineNotEnded, TextGoesOn}
 use Rattle.sheet.specs.declared.fault.Fault.{Fault}
 use Rattle.sheet.specs.declared.line.Due.{Due}
 use Rattle.sheet.specs.declared.line.Due.TheVariants.{OfLatch, OfGate}
@@ -20,15 +22,15 @@ use Rattle.sheet.proofs.ReadOnce.{reason_once}
 use Rattle.sheet.proofs.ReadFirst.{contents_on, pair_on, bad_on, pairs_are_step, bad_is_step, lines_are_step, lined_rest, some_latch, lines_of}
 
 -- a refusal at line p, or behind the last one, where the text goes on with s
-abbrev Why : List ℕ → ℕ → ℕ → List ℕ → Type 0
+abbrev Why : List ℕ → ℕ → Cause → List ℕ → Type 0
 Why l p n s =
-    ((k : Kind) × IsLine l k p × Wrong l k s n) ⊎ ((n ≡ 17) × (p ≡ 3 + latch_count l + gate_count l) × (s ≡ [] → ⊥))
+    ((k : Kind) × IsLine l k p × Wrong l k s n) ⊎ ((n ≡ TextGoesOn) × (p ≡ 3 + latch_count l + gate_count l) × (s ≡ [] → ⊥))
 
 -- how a reader that begins at line j refuses a text
 record Found (l : List ℕ) (j : ℕ) (t : List ℕ) (e : Fault) : Type 0 where
   before : ℕ
   place : e.place ≡ j + before
-  why : Why l e.place e.number (after_lines before t)
+  why : Why l e.place e.cause (after_lines before t)
 
 abbrev Told : {Y : Type 0} → List ℕ → ℕ → (List ℕ → Result Y Fault) → Type 0
 Told l j F = (t : List ℕ) (e : Fault) → F t ≡ Err e → Found l j t e
@@ -41,9 +43,9 @@ found_here l k j t e at w =
     let here = w.0 in
     record { before = 0; place = omega arith; why = inl (k, subst (IsLine l k) (sym here) at, w.1) }
 
-open_refused : (l : List ℕ) (k : Kind) (j : ℕ) (t : List ℕ) (e : Fault) → Free t → refusal 12 j ≡ e → Refused l k j t e
+open_refused : (l : List ℕ) (k : Kind) (j : ℕ) (t : List ℕ) (e : Fault) → Free t → refusal LineNotEnded j ≡ e → Refused l k j t e
 open_refused l k j t e f is =
-    refused_by l k j 12 t e is (not_ended refl (not_open t f))
+    refused_by l k j LineNotEnded t e is (not_ended refl (not_open t f))
 
 after_ended : (q : ℕ) (x r : List ℕ) → Free x → after_lines (suc q) (x ++ (10 ∷ r)) ≡ after_lines q r
 after_ended q x r f =
@@ -59,7 +61,7 @@ module _ {V Y : Type 0} (l : List ℕ) (k : Kind) (j : ℕ) (one : List ℕ → 
       record {
         before = suc w.before;
         place = omega arith;
-        why = subst (Why l e.place e.number) (sym (after_ended w.before x r f)) w.why;
+        why = subst (Why l e.place e.cause) (sym (after_ended w.before x r f)) w.why;
       }
 
   told_step : Told l j (step j one go)
@@ -90,18 +92,18 @@ told_bad l p k at next =
     (told_step l bad_line p (bad_on (literal_limit l) p) (λ a r. k (a, r)) at (bad_refused l p) next)
 
 -- behind the last line
-told_last : (l : List ℕ) (j p : ℕ) (y : List ℕ) → p ≡ j → p ≡ 3 + latch_count l + gate_count l → Told l j (λ t. demand (eqb (length t) 0) (refusal 17 p) (Ok y))
+told_last : (l : List ℕ) (j p : ℕ) (y : List ℕ) → p ≡ j → p ≡ 3 + latch_count l + gate_count l → Told l j (λ t. demand (eqb (length t) 0) (refusal TextGoesOn p) (Ok y))
 told_last l j p y here at t e h =
     ⊎_elim
     (λ (q : (eqb (length t) 0 ≡ true) × (Ok y ≡ Err e)). absurd (err_not e y (sym q.1)))
-    (λ (q : (eqb (length t) 0 ≡ false) × (refusal 17 p ≡ e)).
+    (λ (q : (eqb (length t) 0 ≡ false) × (refusal TextGoesOn p ≡ e)).
     let place : p ≡ e.place = ap (λ (f : Fault). f.place) q.1 in
     record {
       before = 0;
       place = omega arith;
-      why = inr (ap (λ (f : Fault). f.number) (sym q.1), omega arith, λ none. eqb-false (length t) 0 q.0 (ap length none));
+      why = inr (ap (λ (f : Fault). f.cause) (sym q.1), omega arith, λ none. eqb-false (length t) 0 q.0 (ap length none));
     })
-    (demand_err (eqb (length t) 0) (refusal 17 p) (Ok y) e h)
+    (demand_err (eqb (length t) 0) (refusal TextGoesOn p) (Ok y) e h)
 
 told_rest : (l : List ℕ) → Told l 2 (parse_rest (input_count l) (latch_count l) (gate_count l))
 told_rest l =
@@ -143,15 +145,15 @@ first_all l =
     ∙ ap (λ r. latches ++ r) (first_pairs m 103 1 (drop (4 + 2 * n) l) last (λ e. omega arith) ∙ ap (λ r. gates ++ r) end))
 
 -- what was found in the whole text
-reason_from : (t l : List ℕ) (n p q : ℕ) → p ≡ suc q → Why l p n (after_lines q t) → BeginsAs (p - 1) t l → Reason t l n p
+reason_from : (t l : List ℕ) (n : Cause) (p q : ℕ) → p ≡ suc q → Why l p n (after_lines q t) → BeginsAs (p - 1) t l → Reason t l n p
 reason_from t l n p q at why begins =
     let back : q ≡ p - 1 = omega arith in
     ⊎_elim inl
-    (λ (w : (n ≡ 17) × (p ≡ 3 + latch_count l + gate_count l) × (after_lines (p - 1) t ≡ [] → ⊥)).
+    (λ (w : (n ≡ TextGoesOn) × (p ≡ 3 + latch_count l + gate_count l) × (after_lines (p - 1) t ≡ [] → ⊥)).
     let end = w.1 in
     let lines : p - 1 ≡ 2 + latch_count l + gate_count l = omega arith in
     inr (record {
-      number = w.0;
+      cause = w.0;
       place = end;
       whole = begins ∙ ap (λ k. first_lines k (text_of l)) lines ∙ first_all l;
       more = w.2;
@@ -173,7 +175,7 @@ counts_of i n m u l h =
     let s₁ = and_then_inv (read_pairs n OfLatch most (1 + i) [] 2 u) (latches_of i n m) list h in
     let s₂ = and_then_inv (read_pairs m OfGate most (1 + i + n) s₁.0.0 (2 + n) s₁.0.1) (gates_of i n m) list s₁.1.1 in
     let s₃ = and_then_inv (read_bad most (2 + n + m) s₂.0.1) (last_of i n m s₂.0.0) list s₂.1.1 in
-    let s₄ = demand_inv (eqb (length s₃.0.1) 0) (refusal 17 (3 + n + m)) (Ok (i ∷ n ∷ m ∷ s₃.0.0 ∷ s₂.0.0)) list s₃.1.1 in
+    let s₄ = demand_inv (eqb (length s₃.0.1) 0) (refusal TextGoesOn (3 + n + m)) (Ok (i ∷ n ∷ m ∷ s₃.0.0 ∷ s₂.0.0)) list s₃.1.1 in
     front_counts i n m s₃.0.0 s₂.0.0 l (ok_same (i ∷ n ∷ m ∷ s₃.0.0 ∷ s₂.0.0) list s₄.1)
 
 -- the lines after the contents line, by its counts
@@ -181,14 +183,14 @@ abbrev rest_by : ℕ × ℕ × ℕ → List ℕ → Result (List ℕ) Fault
 rest_by c r = parse_rest c.0 c.1 c.2 r
 
 -- what was found behind the contents line
-later_reason : (x r : List ℕ) (f : Fault) (l : List ℕ) → Free x → Found l 2 r f → BeginsAs (f.place - 1) (x ++ (10 ∷ r)) l → Reason (x ++ (10 ∷ r)) l f.number f.place
+later_reason : (x r : List ℕ) (f : Fault) (l : List ℕ) → Free x → Found l 2 r f → BeginsAs (f.place - 1) (x ++ (10 ∷ r)) l → Reason (x ++ (10 ∷ r)) l f.cause f.place
 later_reason x r f l free found =
     let place = found.place in
-    reason_from (x ++ (10 ∷ r)) l f.number f.place (suc found.before) (omega arith)
-    (subst (Why l f.place f.number) (sym (after_ended found.before x r free)) found.why)
+    reason_from (x ++ (10 ∷ r)) l f.cause f.place (suc found.before) (omega arith)
+    (subst (Why l f.place f.cause) (sym (after_ended found.before x r free)) found.why)
 
 -- a text whose contents line is right
-rest_reason : (x r : List ℕ) (c : ℕ × ℕ × ℕ) (f : Fault) (l : List ℕ) → Free x → contents_on x ≡ Ok c → rest_by c r ≡ Err f → Legal l → BeginsAs (f.place - 1) (x ++ (10 ∷ r)) l → Reason (x ++ (10 ∷ r)) l f.number f.place
+rest_reason : (x r : List ℕ) (c : ℕ × ℕ × ℕ) (f : Fault) (l : List ℕ) → Free x → contents_on x ≡ Ok c → rest_by c r ≡ Err f → Legal l → BeginsAs (f.place - 1) (x ++ (10 ∷ r)) l → Reason (x ++ (10 ∷ r)) l f.cause f.place
 rest_reason x r c f l free is h legal begins =
     let t = x ++ (10 ∷ r) in
     let d = (lined_rest c.0 c.1 c.2 (some_latch x c is)).departs r f h in
@@ -201,30 +203,30 @@ rest_reason x r c f l free is h legal begins =
     later_reason x r f l free (told_rest l r f (sym (λ i. parse_rest (e.0 i) (e.1 i) (e.2 i) r) ∙ h)) begins
 
 -- a text that is refused at its contents line
-contents_reason : (t l : List ℕ) (f : Fault) → Refused l contents_line 1 t f → BeginsAs (f.place - 1) t l → Reason t l f.number f.place
-contents_reason t l f w begins = reason_from t l f.number f.place 0 w.0 (inl (contents_line, w.0, w.1)) begins
+contents_reason : (t l : List ℕ) (f : Fault) → Refused l contents_line 1 t f → BeginsAs (f.place - 1) t l → Reason t l f.cause f.place
+contents_reason t l f w begins = reason_from t l f.cause f.place 0 w.0 (inl (contents_line, w.0, w.1)) begins
 
-ended_reason : (x r : List ℕ) (o : Result (ℕ × ℕ × ℕ) Fault) (f : Fault) (l : List ℕ) → Free x → contents_on x ≡ o → and_then o (λ c. rest_by c r) ≡ Err f → Legal l → BeginsAs (f.place - 1) (x ++ (10 ∷ r)) l → Reason (x ++ (10 ∷ r)) l f.number f.place
+ended_reason : (x r : List ℕ) (o : Result (ℕ × ℕ × ℕ) Fault) (f : Fault) (l : List ℕ) → Free x → contents_on x ≡ o → and_then o (λ c. rest_by c r) ≡ Err f → Legal l → BeginsAs (f.place - 1) (x ++ (10 ∷ r)) l → Reason (x ++ (10 ∷ r)) l f.cause f.place
 ended_reason x r (Ok c) f l free is h legal begins = rest_reason x r c f l free is h legal begins
 ended_reason x r (Err d) f l free is h legal begins =
     contents_reason (x ++ (10 ∷ r)) l f (contents_refused l x r f free (is ∙ ap Err (err_same d f h))) begins
 
-line_reason : (t : List ℕ) (f : Fault) → parse_lines t ≡ Err f → (l : List ℕ) → Legal l → BeginsAs (f.place - 1) t l → Reason t l f.number f.place
+line_reason : (t : List ℕ) (f : Fault) → parse_lines t ≡ Err f → (l : List ℕ) → Legal l → BeginsAs (f.place - 1) t l → Reason t l f.cause f.place
 line_reason t f h l legal =
     let stepped : step 1 contents_on rest_by t ≡ Err f = sym (lines_are_step t) ∙ h in
     ⊎_elim
     (λ (g : Free t). contents_reason t l f (open_refused l contents_line 1 t f g (err_same _ _ (sym (step_open 1 contents_on rest_by t g) ∙ stepped))))
     (λ (d : Ended t).
-    let P : List ℕ → Type 0 = λ t. BeginsAs (f.place - 1) t l → Reason t l f.number f.place in
+    let P : List ℕ → Type 0 = λ t. BeginsAs (f.place - 1) t l → Reason t l f.cause f.place in
     subst P (sym d.is) (ended_reason d.line d.rest (contents_on d.line) f l d.free refl (sym (step_ended 1 contents_on rest_by d.line d.rest d.free) ∙ ap (step 1 contents_on rest_by) (sym d.is) ∙ stepped) legal))
     (split t)
 
 parse_reason : (t : List ℕ) (f : Fault) → parse t ≡ Err f → Reasoned t (Err f)
 parse_reason t f h =
     ⊎_elim
-    (λ (q : (leb (length t) 4096 ≡ true) × (parse_lines t ≡ Err f)). inr (λ l legal begins. let w = line_reason t f q.1 l legal begins in (w, λ n v. reason_once t l n f.number f.place v w)))
-    (λ (q : (leb (length t) 4096 ≡ false) × (refusal 11 0 ≡ f)). inl (ap (λ (f : Fault). f.place) (sym q.1)))
-    (demand_err (leb (length t) 4096) (refusal 11 0) (parse_lines t) f h)
+    (λ (q : (leb (length t) 4096 ≡ true) × (parse_lines t ≡ Err f)). inr (λ l legal begins. let w = line_reason t f q.1 l legal begins in (w, λ n v. reason_once t l n f.cause f.place v w)))
+    (λ (q : (leb (length t) 4096 ≡ false) × (refusal TextTooLong 0 ≡ f)). inl (ap (λ (f : Fault). f.place) (sym q.1)))
+    (demand_err (leb (length t) 4096) (refusal TextTooLong 0) (parse_lines t) f h)
 
 reasoned_by : (t old : List ℕ) (q : Result (List ℕ) Fault) (r : Result ℕ Fault) → parse t ≡ q → r ≡ (stored q old).0 → Reasoned t r
 reasoned_by t old (Err f) r h is = subst (Reasoned t) (sym is) (parse_reason t f h)

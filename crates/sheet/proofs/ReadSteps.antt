@@ -3,6 +3,7 @@
 use Rattle.std.proofs.Common.{◌≡◌, ℕ, zero, suc, ◌+◌, ◌⊎◌, List, [], ◌∷◌, ◌++◌, length, take, drop, Ok, Err, Result, sym, refl, ap, ◌∙◌, subst, inl, inr, ⊎_elim, arith}
 use Rattle.std.proofs.lemmas.List.{append_assoc, append-nil, length-append, take_all, drop_all, take_at, drop_at}
 use Rattle.std.proofs.lemmas.Bool.{cond-true, cond-false, le-ltb, eq-eqb, ne_eqb, cases_eq}
+use Rattle.sheet.specs.declared.fault.Cause.TheVariants.{LineNotEnded}
 use Rattle.sheet.specs.declared.fault.Fault.{Fault}
 use Rattle.sheet.specs.Faults.{and_then}
 use Rattle.sheet.specs.Parts.{up_to}
@@ -141,7 +142,7 @@ Placed j (Ok x) = Unit {0}
 Placed j (Err e) = e.place ≡ j
 
 module _ {V Y : Type 0} (j : ℕ) (one : List ℕ → Result V Fault) (go : V → List ℕ → Result Y Fault) where
-  pub step_open : (t : List ℕ) → Free t → step j one go t ≡ Err (refusal 12 j)
+  pub step_open : (t : List ℕ) → Free t → step j one go t ≡ Err (refusal LineNotEnded j)
   step_open t f =
       ap (λ l. and_then l (λ l. and_then (one l.0) (λ v. go v l.1))) (cond-false _ _ _ (le-ltb (up_to 10 t) (length t) (omega arith)))
 
@@ -174,7 +175,7 @@ module _ {V Y : Type 0} (j : ℕ) (one : List ℕ → Result V Fault) (go : V �
 
     departs_open : (t : List ℕ) (e : Fault) → Free t → step j one go t ≡ Err e → Departs (step j one go) j t e
     departs_open t e f h =
-        let is : refusal 12 j ≡ e = err_same _ _ (sym (step_open t f) ∙ h) in
+        let is : refusal LineNotEnded j ≡ e = err_same _ _ (sym (step_open t f) ∙ h) in
         at_once t e (ap (λ (d : Fault). d.place) (sym is)) (λ u same. step_open u (align_open t u f same) ∙ ap Err is)
 
     departs_ended : (x r : List ℕ) (e : Fault) (o : Result V Fault) → one x ≡ o → Free x → and_then o (λ v. go v r) ≡ Err e → Departs (step j one go) j (x ++ (10 ∷ r)) e

@@ -3,6 +3,7 @@ use Rattle.std.proofs.Common.{◌≡◌, ℕ, ◌+◌, ◌-◌, ◌*◌, ◌^◌
 use Rattle.std.proofs.lemmas.List.{take-append-drop, length-take, length-take-le, drop_all}
 use Rattle.std.proofs.lemmas.Bool.{cond-true, cond-false, le-leb, lt-leb, cases_lt}
 use Rattle.lists.specs.Counted.{counted, uncounted, on_counted}
+use Rattle.sheet.specs.declared.fault.Cause.TheVariants.{ListTooShort}
 use Rattle.sheet.specs.declared.fault.Fault.{Fault}
 use Rattle.sheet.specs.declared.read.Head.{Head}
 use Rattle.sheet.specs.Parse.{parse, refusal, stored, read_text}
@@ -37,12 +38,12 @@ length_counted old k cut = omega (arith, length-take (2 ^ 28) old)
 length_whole : (pairs : List ℕ) (h : Head) (n : ℕ) → n ≡ 2 * (h.counts.latches + h.counts.gates) → n ≤ length pairs → length (whole_seen pairs h) ≡ 4 + n
 length_whole pairs h n is room = omega (arith, length-take-le (2 * (h.counts.latches + h.counts.gates)) pairs (omega arith))
 
-pub read_short : (t old pairs : List ℕ) (h : Head) (k n : ℕ) → Ok (whole_seen pairs h) ≡ parse t → n ≡ 2 * (h.counts.latches + h.counts.gates) → n ≤ length pairs → k ≡ min (length old) (2 ^ 28) → k < 4 + n → (Err (refusal 18 0), old) ≡ read_text t old
+pub read_short : (t old pairs : List ℕ) (h : Head) (k n : ℕ) → Ok (whole_seen pairs h) ≡ parse t → n ≡ 2 * (h.counts.latches + h.counts.gates) → n ≤ length pairs → k ≡ min (length old) (2 ^ 28) → k < 4 + n → (Err (refusal ListTooShort 0), old) ≡ read_text t old
 read_short t old pairs h k n is size room cut short =
     let most = length_counted old k cut in
     let long = length_whole pairs h n size room in
-    kept old (refusal 18 0)
-    ∙ onward t old (whole_seen pairs h) (Err (refusal 18 0), counted old) is (sym (cond-false _ _ _ (lt-leb (length (whole_seen pairs h)) (length (counted old)) (omega arith))))
+    kept old (refusal ListTooShort 0)
+    ∙ onward t old (whole_seen pairs h) (Err (refusal ListTooShort 0), counted old) is (sym (cond-false _ _ _ (lt-leb (length (whole_seen pairs h)) (length (counted old)) (omega arith))))
 
 -- `new` is what was stored in the places that count
 pub read_stored : (t old pairs new : List ℕ) (h : Head) (k n : ℕ) → Ok (whole_seen pairs h) ≡ parse t → n ≡ 2 * (h.counts.latches + h.counts.gates) → n ≤ length pairs → k ≡ min (length old) (2 ^ 28) → 4 + n ≤ k → new ≡ (h.counts.inputs ∷ h.counts.latches ∷ h.counts.gates ∷ h.bad ∷ take (n - 0) pairs) ++ replicate (length (take (k - 0) old) - (4 + length (take (n - 0) pairs))) 0 → (Ok (4 + n), new ++ drop (k - 0) old) ≡ read_text t old

@@ -1,6 +1,8 @@
 -- Why a line by itself is refused: each refusal has the reason that its number says. Assumes nothing.
 use Rattle.std.proofs.Common.{◌≡◌, ℕ, suc, ◌+◌, ◌<◌, Bool, true, false, cond, ◌&&◌, eqb, leb, ◌⊎◌, List, [], ◌∷◌, ◌++◌, get_or, Some, None, Ok, Err, Option, Result, sym, refl, ap, ◌∙◌, subst, inl, inr, ⊎_elim, arith}
 use Rattle.std.proofs.lemmas.Bool.{le-leb, lt-ltb, leb-true, eqb-true, eqb-false, and_from, and_parts, both_ways}
+use Rattle.sheet.specs.declared.fault.Cause.{Cause}
+use Rattle.sheet.specs.declared.fault.Cause.TheVariants.{WrongLetter, NotNumbers, OutOfRange, OutOfOrder}
 use Rattle.sheet.specs.declared.fault.Fault.{Fault}
 use Rattle.sheet.specs.declared.line.Due.{Due}
 use Rattle.sheet.specs.declared.line.Due.TheVariants.{OfLatch, OfGate}
@@ -17,8 +19,8 @@ use Rattle.sheet.proofs.ReadFirst.{contents_in, contents_by, contents_on, pair_i
 
 -- a line read by its letter and its numbers, which are then checked
 abbrev heard : {V : Type 0} → ℕ → ℕ → ℕ → (List ℕ → Result V Fault) → List ℕ → Result V Fault
-heard c k p check [] = Err (refusal 13 p)
-heard c k p check (y ∷ s) = demand (eqb y c) (refusal 13 p) (and_then (given (numbers (parts k s)) (refusal 14 p)) check)
+heard c k p check [] = Err (refusal WrongLetter p)
+heard c k p check (y ∷ s) = demand (eqb y c) (refusal WrongLetter p) (and_then (given (numbers (parts k s)) (refusal NotNumbers p)) check)
 
 -- that is how each line is read
 abbrev contents_check : List ℕ → Result (ℕ × ℕ × ℕ) Fault
@@ -34,7 +36,7 @@ if_letter : {X V : Type 0} (b : Bool) (e : Fault) (x : X) (f : X → Result V Fa
 if_letter true e x f = refl
 if_letter false e x f = refl
 
-contents_options : (a b c : Option ℕ) → and_then (given a (refusal 14 1)) (λ i. and_then (given b (refusal 14 1)) (λ n. and_then (given c (refusal 14 1)) (λ m. contents_in i n m))) ≡ and_then (given (with_first a (with_first b (with_first c (Some [])))) (refusal 14 1)) contents_check
+contents_options : (a b c : Option ℕ) → and_then (given a (refusal NotNumbers 1)) (λ i. and_then (given b (refusal NotNumbers 1)) (λ n. and_then (given c (refusal NotNumbers 1)) (λ m. contents_in i n m))) ≡ and_then (given (with_first a (with_first b (with_first c (Some [])))) (refusal NotNumbers 1)) contents_check
 contents_options None b c = refl
 contents_options (Some i) None c = refl
 contents_options (Some i) (Some n) None = refl
@@ -43,10 +45,10 @@ contents_options (Some i) (Some n) (Some m) = refl
 contents_heard : (x : List ℕ) → contents_on x ≡ heard 99 2 1 contents_check x
 contents_heard [] = refl
 contents_heard (y ∷ s) =
-    if_letter (eqb y 99) (refusal 13 1) (former s, former (further s), latter (further s)) contents_by
-    ∙ ap (demand (eqb y 99) (refusal 13 1)) (contents_options (spelled (former s)) (spelled (former (further s))) (spelled (latter (further s))))
+    if_letter (eqb y 99) (refusal WrongLetter 1) (former s, former (further s), latter (further s)) contents_by
+    ∙ ap (demand (eqb y 99) (refusal WrongLetter 1)) (contents_options (spelled (former s)) (spelled (former (further s))) (spelled (latter (further s))))
 
-pair_options : (d : Due) (most own p : ℕ) (a b : Option ℕ) → and_then (given a (refusal 14 p)) (λ a. and_then (given b (refusal 14 p)) (λ b. pair_in d most own p a b)) ≡ and_then (given (with_first a (with_first b (Some []))) (refusal 14 p)) (pair_check d most own p)
+pair_options : (d : Due) (most own p : ℕ) (a b : Option ℕ) → and_then (given a (refusal NotNumbers p)) (λ a. and_then (given b (refusal NotNumbers p)) (λ b. pair_in d most own p a b)) ≡ and_then (given (with_first a (with_first b (Some []))) (refusal NotNumbers p)) (pair_check d most own p)
 pair_options d most own p None b = refl
 pair_options d most own p (Some a) None = refl
 pair_options d most own p (Some a) (Some b) = refl
@@ -54,26 +56,26 @@ pair_options d most own p (Some a) (Some b) = refl
 pair_heard : (d : Due) (most own p : ℕ) (x : List ℕ) → pair_on d most own p x ≡ heard (letter d) 1 p (pair_check d most own p) x
 pair_heard d most own p [] = refl
 pair_heard d most own p (y ∷ s) =
-    if_letter (eqb y (letter d)) (refusal 13 p) (former s, latter s) (pair_by d most own p)
-    ∙ ap (demand (eqb y (letter d)) (refusal 13 p)) (pair_options d most own p (spelled (former s)) (spelled (latter s)))
+    if_letter (eqb y (letter d)) (refusal WrongLetter p) (former s, latter s) (pair_by d most own p)
+    ∙ ap (demand (eqb y (letter d)) (refusal WrongLetter p)) (pair_options d most own p (spelled (former s)) (spelled (latter s)))
 
-bad_option : (most p : ℕ) (a : Option ℕ) → and_then (given a (refusal 14 p)) (bad_in most p) ≡ and_then (given (with_first a (Some [])) (refusal 14 p)) (bad_check most p)
+bad_option : (most p : ℕ) (a : Option ℕ) → and_then (given a (refusal NotNumbers p)) (bad_in most p) ≡ and_then (given (with_first a (Some [])) (refusal NotNumbers p)) (bad_check most p)
 bad_option most p None = refl
 bad_option most p (Some a) = refl
 
 bad_heard : (most p : ℕ) (x : List ℕ) → bad_on most p x ≡ heard 98 0 p (bad_check most p) x
 bad_heard most p [] = refl
 bad_heard most p (y ∷ s) =
-    if_letter (eqb y 98) (refusal 13 p) (spaced s) (λ v. and_then (number_of p v) (bad_in most p))
-    ∙ ap (demand (eqb y 98) (refusal 13 p)) (bad_option most p (spelled (spaced s)))
+    if_letter (eqb y 98) (refusal WrongLetter p) (spaced s) (λ v. and_then (number_of p v) (bad_in most p))
+    ∙ ap (demand (eqb y 98) (refusal WrongLetter p)) (bad_option most p (spelled (spaced s)))
 
 -- a refusal of line p, of this kind, where the text goes on with s
 abbrev pub Refused : List ℕ → Kind → ℕ → List ℕ → Fault → Type 0
-Refused l k p s e = (e.place ≡ p) × Wrong l k s e.number
+Refused l k p s e = (e.place ≡ p) × Wrong l k s e.cause
 
-pub refused_by : (l : List ℕ) (k : Kind) (p n : ℕ) (s : List ℕ) (e : Fault) → refusal n p ≡ e → Wrong l k s n → Refused l k p s e
+pub refused_by : (l : List ℕ) (k : Kind) (p : ℕ) (n : Cause) (s : List ℕ) (e : Fault) → refusal n p ≡ e → Wrong l k s n → Refused l k p s e
 refused_by l k p n s e is w =
-    (ap (λ (f : Fault). f.place) (sym is), subst (λ (f : Fault). Wrong l k s f.number) is w)
+    (ap (λ (f : Fault). f.place) (sym is), subst (λ (f : Fault). Wrong l k s f.cause) is w)
 
 letter_not_end : (k : Kind) → 10 ≡ letter_of k → ⊥
 letter_not_end contents_line e = omega arith
@@ -110,26 +112,26 @@ body_says k j s r ns many f h =
 
 -- the refusals of a line that is read by its letter and its numbers, where those of the check are right
 module _ {V : Type 0} (l : List ℕ) (k : Kind) (j p : ℕ) (check : List ℕ → Result V Fault) (r : List ℕ) (e : Fault) (many : numbers_in k ≡ suc j) where
-  refused_numbers : (s : List ℕ) (o : Option (List ℕ)) → Free (letter_of k ∷ s) → numbers (parts j s) ≡ o → ((ns : List ℕ) → Says k ((letter_of k ∷ s) ++ (10 ∷ r)) ns → check ns ≡ Err e → Refused l k p ((letter_of k ∷ s) ++ (10 ∷ r)) e) → and_then (given o (refusal 14 p)) check ≡ Err e → Refused l k p ((letter_of k ∷ s) ++ (10 ∷ r)) e
+  refused_numbers : (s : List ℕ) (o : Option (List ℕ)) → Free (letter_of k ∷ s) → numbers (parts j s) ≡ o → ((ns : List ℕ) → Says k ((letter_of k ∷ s) ++ (10 ∷ r)) ns → check ns ≡ Err e → Refused l k p ((letter_of k ∷ s) ++ (10 ∷ r)) e) → and_then (given o (refusal NotNumbers p)) check ≡ Err e → Refused l k p ((letter_of k ∷ s) ++ (10 ∷ r)) e
   refused_numbers s (Some ns) f is checked h = checked ns (body_says k j s r ns many f is) h
   refused_numbers s None f is checked h =
       let none : (ns : List ℕ) → Says k ((letter_of k ∷ s) ++ (10 ∷ r)) ns → ⊥ = λ ns says.
       let whole = says_body k (letter_of k ∷ s) r ns f says in
       let tail : s ≡ body ns = cc in
       none_not ns (sym is ∙ ap (λ s. numbers (parts j s)) tail ∙ numbers_given j ns (says.as_many ∙ many) says.three_digits) in
-      refused_by l k p 14 ((letter_of k ∷ s) ++ (10 ∷ r)) e (err_same _ _ h) (no_numbers refl (letter_of k ∷ s, r, refl) refl none)
+      refused_by l k p NotNumbers ((letter_of k ∷ s) ++ (10 ∷ r)) e (err_same _ _ h) (no_numbers refl (letter_of k ∷ s, r, refl) refl none)
 
   refused_line : (x : List ℕ) → Free x → ((ns : List ℕ) → Says k (x ++ (10 ∷ r)) ns → check ns ≡ Err e → Refused l k p (x ++ (10 ∷ r)) e) → heard (letter_of k) j p check x ≡ Err e → Refused l k p (x ++ (10 ∷ r)) e
   refused_line [] f checked h =
-      refused_by l k p 13 (10 ∷ r) e (err_same _ _ h) (other_letter refl ([], r, refl) (letter_not_end k))
+      refused_by l k p WrongLetter (10 ∷ r) e (err_same _ _ h) (other_letter refl ([], r, refl) (letter_not_end k))
   refused_line (y ∷ s) f checked h =
       ⊎_elim
-      (λ (q : (eqb y (letter_of k) ≡ true) × (and_then (given (numbers (parts j s)) (refusal 14 p)) check ≡ Err e)).
+      (λ (q : (eqb y (letter_of k) ≡ true) × (and_then (given (numbers (parts j s)) (refusal NotNumbers p)) check ≡ Err e)).
       let P : ℕ → Type 0 = λ y. Free (y ∷ s) → ((ns : List ℕ) → Says k ((y ∷ s) ++ (10 ∷ r)) ns → check ns ≡ Err e → Refused l k p ((y ∷ s) ++ (10 ∷ r)) e) → Refused l k p ((y ∷ s) ++ (10 ∷ r)) e in
       subst P (sym (eqb-true y (letter_of k) q.0)) (λ f checked. refused_numbers s (numbers (parts j s)) f refl checked q.1) f checked)
-      (λ (q : (eqb y (letter_of k) ≡ false) × (refusal 13 p ≡ e)).
-      refused_by l k p 13 ((y ∷ s) ++ (10 ∷ r)) e q.1 (other_letter refl (y ∷ s, r, refl) (eqb-false y (letter_of k) q.0)))
-      (demand_err (eqb y (letter_of k)) (refusal 13 p) (and_then (given (numbers (parts j s)) (refusal 14 p)) check) e h)
+      (λ (q : (eqb y (letter_of k) ≡ false) × (refusal WrongLetter p ≡ e)).
+      refused_by l k p WrongLetter ((y ∷ s) ++ (10 ∷ r)) e q.1 (other_letter refl (y ∷ s, r, refl) (eqb-false y (letter_of k) q.0)))
+      (demand_err (eqb y (letter_of k)) (refusal WrongLetter p) (and_then (given (numbers (parts j s)) (refusal NotNumbers p)) check) e h)
 
 -- the contents line
 pub contents_refused : (l x r : List ℕ) (e : Fault) → Free x → contents_on x ≡ Err e → Refused l contents_line 1 (x ++ (10 ∷ r)) e
@@ -142,11 +144,11 @@ contents_refused l x r e f h =
     let test = leb i 24 && (leb 1 n && (leb n 24 && leb m 200)) in
     ⊎_elim
     (λ (q : (test ≡ true) × (Ok (i, n, m) ≡ Err e)). absurd (err_not e (i, n, m) (sym q.1)))
-    (λ (q : (test ≡ false) × (refusal 15 1 ≡ e)).
-    refused_by l contents_line 1 15 (x ++ (10 ∷ r)) e q.1
+    (λ (q : (test ≡ false) × (refusal OutOfRange 1 ≡ e)).
+    refused_by l contents_line 1 OutOfRange (x ++ (10 ∷ r)) e q.1
     (out_of_range refl ns says (λ w.
     both_ways test q.0 (and_from _ _ (le-leb i 24 w.0) (and_from _ _ (le-leb 1 n w.1) (and_from _ _ (le-leb n 24 w.2) (le-leb m 200 w.3)))))))
-    (demand_err test (refusal 15 1) (Ok (i, n, m)) e bad))
+    (demand_err test (refusal OutOfRange 1) (Ok (i, n, m)) e bad))
     (sym (contents_heard x) ∙ h)
 
 -- the lines of two numbers
@@ -200,17 +202,17 @@ pair_checked l d j p s ns e says h =
     let order = ordered d (node_by l d j) a b in
     let ok : Result (ℕ × ℕ) Fault = Ok (a, b) in
     ⊎_elim
-    (λ (q : (range ≡ true) × (demand order (refusal 16 p) ok ≡ Err e)).
+    (λ (q : (range ≡ true) × (demand order (refusal OutOfOrder p) ok ≡ Err e)).
     ⊎_elim
     (λ (w : (order ≡ true) × (ok ≡ Err e)). absurd (err_not e (a, b) (sym w.1)))
-    (λ (w : (order ≡ false) × (refusal 16 p ≡ e)).
-    refused_by l (kind_by d j) p 16 s e w.1
+    (λ (w : (order ≡ false) × (refusal OutOfOrder p ≡ e)).
+    refused_by l (kind_by d j) p OutOfOrder s e w.1
     (out_of_order refl ns says (test_in_range l d j ns q.0) (λ o. both_ways order w.0 (in_order_test l d j ns o))))
-    (demand_err order (refusal 16 p) ok e q.1))
-    (λ (q : (range ≡ false) × (refusal 15 p ≡ e)).
-    refused_by l (kind_by d j) p 15 s e q.1
+    (demand_err order (refusal OutOfOrder p) ok e q.1))
+    (λ (q : (range ≡ false) × (refusal OutOfRange p ≡ e)).
+    refused_by l (kind_by d j) p OutOfRange s e q.1
     (out_of_range refl ns says (λ o. both_ways range q.0 (in_range_test l d j ns o))))
-    (demand_err range (refusal 15 p) (demand order (refusal 16 p) ok) e h)
+    (demand_err range (refusal OutOfRange p) (demand order (refusal OutOfOrder p) ok) e h)
 
 letter_by : (d : Due) (j : ℕ) → letter_of (kind_by d j) ≡ letter d
 letter_by OfLatch j = refl
@@ -236,8 +238,8 @@ bad_refused l p x r e f h =
     let test = leb a (literal_limit l) in
     ⊎_elim
     (λ (q : (test ≡ true) × (Ok a ≡ Err e)). absurd (err_not e a (sym q.1)))
-    (λ (q : (test ≡ false) × (refusal 15 p ≡ e)).
-    refused_by l bad_line p 15 (x ++ (10 ∷ r)) e q.1
+    (λ (q : (test ≡ false) × (refusal OutOfRange p ≡ e)).
+    refused_by l bad_line p OutOfRange (x ++ (10 ∷ r)) e q.1
     (out_of_range refl ns says (λ w. both_ways test q.0 (le-leb a (literal_limit l) w))))
-    (demand_err test (refusal 15 p) (Ok a) e bad))
+    (demand_err test (refusal OutOfRange p) (Ok a) e bad))
     (sym (bad_heard (literal_limit l) p x) ∙ h)

@@ -1,5 +1,6 @@
 -- The text of a list reads to that list. Assumes nothing.
 use Rattle.std.proofs.Common.{◌≡◌, ℕ, zero, suc, ◌+◌, ◌*◌, ◌<◌, ◌≤◌, true, ◌&&◌, ltb, leb, List, [], ◌∷◌, ◌++◌, length, get_or, take, drop, Some, Ok, Err, sym, refl, ap, ◌∙◌, subst, arith, take-add}
+use Rattle.sheet.specs.declared.fault.Cause.TheVariants.{LineNotEnded, WrongLetter, NotNumbers}
 use Rattle.std.proofs.lemmas.List.{append_assoc, append-nil, length-append, length-drop, take_at, drop_at, drop-drop}
 use Rattle.std.proofs.lemmas.Bool.{cond-true, cond-false, lt-ltb, le-leb, leb-true, eq-eqb, ne_eqb, and_from, and_parts}
 use Rattle.sheet.specs.declared.line.Due.{Due}
@@ -29,7 +30,7 @@ line_of_text p body r h =
     let long : length t ≡ length body + suc (length r) = length-append body (10 ∷ r) in
     let front = take_at body (10 ∷ r) (up_to 10 t) (sym at) in
     let back : drop (up_to 10 t + 1) t ≡ r = sym (drop-drop 1 (up_to 10 t) t) ∙ ap (drop 1) (drop_at body (10 ∷ r) (up_to 10 t) (sym at)) in
-    cond-true (ltb (up_to 10 t) (length t)) (Ok (take (up_to 10 t) t, drop (up_to 10 t + 1) t)) (Err (refusal 12 p)) (lt-ltb _ _ (omega arith))
+    cond-true (ltb (up_to 10 t) (length t)) (Ok (take (up_to 10 t) t, drop (up_to 10 t + 1) t)) (Err (refusal LineNotEnded p)) (lt-ltb _ _ (omega arith))
     ∙ (λ i. Ok (front i, back i))
 
 -- the parts of a line
@@ -62,10 +63,10 @@ module _ (va vb vc r : List ℕ) (i n m : ℕ) where
       let third : latter (further tail) ≡ vc = ap latter then ∙ latter_text vb vc sb in
       let parts : triples_if 99 (99 ∷ tail) ≡ Some (va, vb, vc) = (λ i. Some (first i, second i, third i)) in
       ap (λ l. and_then l contents_from) line
-      ∙ ap (λ o. and_then (given o (refusal 13 1)) (contents_of r)) parts
-      ∙ ap (λ o. and_then (given o (refusal 14 1)) (λ i. and_then (number_of 1 vb) (λ n. and_then (number_of 1 vc) (λ m. contents_if r i n m)))) ei
-      ∙ ap (λ o. and_then (given o (refusal 14 1)) (λ n. and_then (number_of 1 vc) (λ m. contents_if r i n m))) en
-      ∙ ap (λ o. and_then (given o (refusal 14 1)) (λ m. contents_if r i n m)) em
+      ∙ ap (λ o. and_then (given o (refusal WrongLetter 1)) (contents_of r)) parts
+      ∙ ap (λ o. and_then (given o (refusal NotNumbers 1)) (λ i. and_then (number_of 1 vb) (λ n. and_then (number_of 1 vc) (λ m. contents_if r i n m)))) ei
+      ∙ ap (λ o. and_then (given o (refusal NotNumbers 1)) (λ n. and_then (number_of 1 vc) (λ m. contents_if r i n m))) en
+      ∙ ap (λ o. and_then (given o (refusal NotNumbers 1)) (λ m. contents_if r i n m)) em
       ∙ cond-true _ _ _ range
 
 read_contents_text : (i n m : ℕ) (r : List ℕ) → i ≤ 24 → 1 ≤ n → n ≤ 24 → m ≤ 200 → read_contents (line_text 99 (i ∷ n ∷ m ∷ []) ++ r) ≡ Ok (i, n, m, r)
@@ -87,9 +88,9 @@ module _ (d : Due) (most own p : ℕ) (va vb r : List ℕ) (a b : ℕ) where
       let parts : parts_if x (x ∷ tail) ≡ Some (va, vb) = cond-true _ _ _ (eq-eqb x x refl) ∙ (λ i. Some (former_text va vb sa i, latter_text va vb sa i)) in
       let both = and_parts (in_range d most a b) (ordered d own a b) fit in
       ap (λ l. and_then l (pair_from d most own p)) line
-      ∙ ap (λ o. and_then (given o (refusal 13 p)) (pair_of d most own p r)) parts
-      ∙ ap (λ o. and_then (given o (refusal 14 p)) (λ a. and_then (number_of p vb) (λ b. pair_if d most own p r a b))) ea
-      ∙ ap (λ o. and_then (given o (refusal 14 p)) (λ b. pair_if d most own p r a b)) eb
+      ∙ ap (λ o. and_then (given o (refusal WrongLetter p)) (pair_of d most own p r)) parts
+      ∙ ap (λ o. and_then (given o (refusal NotNumbers p)) (λ a. and_then (number_of p vb) (λ b. pair_if d most own p r a b))) ea
+      ∙ ap (λ o. and_then (given o (refusal NotNumbers p)) (λ b. pair_if d most own p r a b)) eb
       ∙ cond-true _ _ _ both.0
       ∙ cond-true _ _ _ both.1
 
@@ -124,7 +125,7 @@ read_bad_text : (most p a : ℕ) → most < 1000 → a ≤ most → read_bad mos
 read_bad_text most p a small h =
     let clear : Clear 10 (98 ∷ 32 ∷ digits a) = (λ e. omega arith, (λ e. omega arith, digits_clear 10 a (omega arith))) in
     ap (λ l. and_then l (bad_from most p)) (line_of_text p (98 ∷ 32 ∷ digits a) [] clear)
-    ∙ ap (λ o. and_then (given o (refusal 14 p)) (bad_if most p [])) (spelled_digits a (omega arith))
+    ∙ ap (λ o. and_then (given o (refusal NotNumbers p)) (bad_if most p [])) (spelled_digits a (omega arith))
     ∙ cond-true _ _ _ (le-leb _ _ h)
 
 -- how long lines are

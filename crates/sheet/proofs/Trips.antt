@@ -3,6 +3,7 @@ use Rattle.std.proofs.Common.{◌≡◌, ℕ, ◌+◌, ◌-◌, ◌*◌, ◌^◌
 use Rattle.std.proofs.lemmas.List.{append-nil, length-append, length-take, length-drop, length-take-le, length-replicate, take_all, take_at, drop_all, take-append-drop, get_or-take}
 use Rattle.std.proofs.lemmas.Bool.{cond-true, cond-false, le-leb, leb-true, eqb-true, and_parts, cases_Bool, cases_lt}
 use Rattle.lists.specs.Counted.{counted, uncounted, on_counted}
+use Rattle.sheet.specs.declared.fault.Cause.TheVariants.{ListTooShort}
 use Rattle.sheet.specs.declared.fault.Fault.{Fault}
 use Rattle.sheet.specs.Sheets.{size_of, input_count, latch_count, gate_count}
 use Rattle.sheet.specs.Parse.{parse, stored, read_text, refusal}
@@ -98,7 +99,7 @@ stored_from t (Ok xs) old l k h s =
     let lr = length-replicate {A = ℕ} z 0 in
     let front = counted_front (xs ++ replicate z 0) old (omega arith) in
     record { list = xs; room = z; parsed = h; is = ap (λ (q : Result ℕ Fault × List ℕ). counted q.1) is ∙ front })
-    (λ b. absurd (err_not (refusal 18 0) k (sym (ap (λ (q : Result ℕ Fault × List ℕ). q.0) (subst P (cond-false _ _ _ b) s)))))
+    (λ b. absurd (err_not (refusal ListTooShort 0) k (sym (ap (λ (q : Result ℕ Fault × List ℕ). q.0) (subst P (cond-false _ _ _ b) s)))))
     (cases_Bool (leb (length xs) (length o)))
 
 -- what reading left passes the test, and its text is the one that was read

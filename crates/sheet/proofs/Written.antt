@@ -5,6 +5,9 @@ use Rattle.std.proofs.lemmas.List.{append_assoc, append-nil, length-append, leng
 use Rattle.std.proofs.lemmas.Bool.{cond-true, cond-false, le-leb, lt-leb, leb-false, cases_Bool, cases_lt, both_ways}
 use Rattle.lists.specs.Counted.{counted, uncounted}
 use Rattle.lists.proofs.Taken.{take_min}
+use Rattle.sheet.specs.Faults.{cause_number}
+use Rattle.sheet.specs.declared.fault.Cause.{Cause}
+use Rattle.sheet.specs.declared.fault.Cause.TheVariants.{ListTooShort, NotLegal}
 use Rattle.sheet.specs.declared.fault.Fault.{Fault}
 use Rattle.sheet.specs.Sheets.{Legal, size_of}
 use Rattle.sheet.specs.Parse.{refusal}
@@ -16,13 +19,13 @@ use Rattle.sheet.proofs.Trips.{back, read_formed}
 
 -- what writing answers, by whether the list passes the test and whether there is room
 abbrev answer : Bool → Bool → ℕ → Result ℕ Fault
-answer b c k = cond b (cond c (Ok k) (Err (refusal 18 0))) (Err (refusal 21 0))
+answer b c k = cond b (cond c (Ok k) (Err (refusal ListTooShort 0))) (Err (refusal NotLegal 0))
 
 fault_number : Result ℕ Fault → ℕ
 fault_number (Ok k) = 0
-fault_number (Err e) = e.number
+fault_number (Err e) = cause_number e.cause
 
-other_fault : (a b : ℕ) → ◌≡◌ {A = Result ℕ Fault} (Err (refusal a 0)) (Err (refusal b 0)) → a ≡ b
+other_fault : (a b : Cause) → ◌≡◌ {A = Result ℕ Fault} (Err (refusal a 0)) (Err (refusal b 0)) → cause_number a ≡ cause_number b
 unfolding fault_number
 other_fault a b h = ap fault_number h
 
@@ -38,20 +41,20 @@ answer_is l old t r h =
     ap (λ (q : Result ℕ Fault × List ℕ). q.0) h
     ∙ first_of (well_formed c) (leb (length (text_of c)) (length o)) _ _ _
 
-answer_refused : (b c : Bool) (k : ℕ) → answer b c k ≡ Err (refusal 21 0) → b ≡ false
-answer_refused true true k h = absurd (err_not (refusal 21 0) k (sym h))
-answer_refused true false k h = absurd (omega (arith, other_fault 18 21 h))
+answer_refused : (b c : Bool) (k : ℕ) → answer b c k ≡ Err (refusal NotLegal 0) → b ≡ false
+answer_refused true true k h = absurd (err_not (refusal NotLegal 0) k (sym h))
+answer_refused true false k h = absurd (omega (arith, other_fault ListTooShort NotLegal h))
 answer_refused false c k h = refl
 
-answer_short : (b c : Bool) (k : ℕ) → answer b c k ≡ Err (refusal 18 0) → (b ≡ true) × (c ≡ false)
-answer_short true true k h = absurd (err_not (refusal 18 0) k (sym h))
+answer_short : (b c : Bool) (k : ℕ) → answer b c k ≡ Err (refusal ListTooShort 0) → (b ≡ true) × (c ≡ false)
+answer_short true true k h = absurd (err_not (refusal ListTooShort 0) k (sym h))
 answer_short true false k h = (refl, refl)
-answer_short false c k h = absurd (omega (arith, other_fault 21 18 h))
+answer_short false c k h = absurd (omega (arith, other_fault NotLegal ListTooShort h))
 
 answer_ok : (b c : Bool) (k n : ℕ) → Ok n ≡ answer b c k → (b ≡ true) × (c ≡ true) × (n ≡ k)
 answer_ok true true k n h = (refl, refl, ok_same n k h)
-answer_ok true false k n h = absurd (err_not (refusal 18 0) n (sym h))
-answer_ok false c k n h = absurd (err_not (refusal 21 0) n (sym h))
+answer_ok true false k n h = absurd (err_not (refusal ListTooShort 0) n (sym h))
+answer_ok false c k n h = absurd (err_not (refusal NotLegal 0) n (sym h))
 
 take_front : (w z rest t : List ℕ) (n : ℕ) → n ≡ length w → t ≡ (w ++ z) ++ rest → take n t ≡ w
 take_front w z rest t n long is = ap (take n) (is ∙ append_assoc w z rest) ∙ take_at w (z ++ rest) n (sym long)
@@ -69,7 +72,7 @@ written_back l old t (Ok n) h =
     subst (ReadsBack l) (sym text) (back l p.0)
 
 -- a list is refused exactly if no text reads to it
-pub refused_unread : (l old t : List ℕ) (r : Result ℕ Fault) → (r, t) ≡ write_text l old → Iff (r ≡ Err (refusal 21 0)) ((s : List ℕ) → ReadsTo s l → ⊥)
+pub refused_unread : (l old t : List ℕ) (r : Result ℕ Fault) → (r, t) ≡ write_text l old → Iff (r ≡ Err (refusal NotLegal 0)) ((s : List ℕ) → ReadsTo s l → ⊥)
 refused_unread l old t r h =
     let c = counted l in
     let room = leb (length (text_of c)) (length (counted old)) in
@@ -82,7 +85,7 @@ refused_unread l old t r h =
     )
 
 -- the text is too short exactly if the list is legal and its text is longer
-pub short_room : (l old t : List ℕ) (r : Result ℕ Fault) → (r, t) ≡ write_text l old → Iff (r ≡ Err (refusal 18 0)) (Legal (counted l) × (length (counted old) < length (text_of (counted l))))
+pub short_room : (l old t : List ℕ) (r : Result ℕ Fault) → (r, t) ≡ write_text l old → Iff (r ≡ Err (refusal ListTooShort 0)) (Legal (counted l) × (length (counted old) < length (text_of (counted l))))
 short_room l old t r h =
     let c = counted l in
     let w = length (text_of c) in
@@ -94,10 +97,10 @@ short_room l old t r h =
     )
 
 -- a refused list leaves the text
-pub writes_nothing : (l old : List ℕ) → well_formed (counted l) ≡ false → (Err (refusal 21 0), old) ≡ write_text l old
+pub writes_nothing : (l old : List ℕ) → well_formed (counted l) ≡ false → (Err (refusal NotLegal 0), old) ≡ write_text l old
 writes_nothing l old h =
-    let is : rendered (counted l) (counted old) ≡ (Err (refusal 21 0), counted old) = cond-false _ _ _ h in
-    sym (ap (λ (q : Result ℕ Fault × List ℕ). (q.0, q.1 ++ uncounted old)) is ∙ ap (λ r. (Err (refusal 21 0), r)) (take-append-drop (2 ^ 28) old))
+    let is : rendered (counted l) (counted old) ≡ (Err (refusal NotLegal 0), counted old) = cond-false _ _ _ h in
+    sym (ap (λ (q : Result ℕ Fault × List ℕ). (q.0, q.1 ++ uncounted old)) is ∙ ap (λ r. (Err (refusal NotLegal 0), r)) (take-append-drop (2 ^ 28) old))
 
 drop_min : (xs : List ℕ) (n m : ℕ) → m ≡ min (length xs) n → drop m xs ≡ drop n xs
 drop_min xs n m is =

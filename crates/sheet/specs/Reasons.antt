@@ -1,5 +1,7 @@
 -- Why a text is refused at a line: what each number says of the line, in the words of the format. Assumes nothing.
 use Rattle.std.specs.Prelude.{◌≡◌, ℕ, zero, suc, ◌+◌, ◌-◌, ◌/◌, ◌<◌, ◌≤◌, ◌⊎◌, List, [], ◌∷◌, ◌++◌, length, drop, Ok, Err, Result, ◌≢◌, slice_index}
+use Rattle.sheet.specs.declared.fault.Cause.{Cause}
+use Rattle.sheet.specs.declared.fault.Cause.TheVariants.{LineNotEnded, WrongLetter, NotNumbers, OutOfRange, OutOfOrder, TextGoesOn}
 use Rattle.sheet.specs.declared.fault.Fault.{Fault}
 use Rattle.sheet.specs.Sheets.{Legal, latch_count, gate_count, gate_node, literal_limit}
 use Rattle.sheet.specs.Parts.{up_to}
@@ -63,18 +65,18 @@ pub record Says (k : Kind) (s ns : List ℕ) : Type 0 where
   pub three_digits : (i : ℕ) → slice_index ns i ≤ 999
   pub line : first_lines 1 s ≡ line_text (letter_of k) ns
 
--- why a text s does not begin with the line that is due, by number: it has no end; it has another letter; it has not the
+-- why a text s does not begin with the line that is due, by check: it has no end; it has another letter; it has not the
 -- numbers that are due; they are not within their limits; they are not in order
-pub data Wrong (l : List ℕ) (k : Kind) (s : List ℕ) (n : ℕ) : Type 0 where
-  not_ended : n ≡ 12 → (HasEnd s → ⊥) → Wrong l k s n
-  other_letter : n ≡ 13 → HasEnd s → (slice_index s 0 ≢ letter_of k) → Wrong l k s n
-  no_numbers : n ≡ 14 → HasEnd s → slice_index s 0 ≡ letter_of k → ((ns : List ℕ) → Says k s ns → ⊥) → Wrong l k s n
-  out_of_range : n ≡ 15 → (ns : List ℕ) → Says k s ns → (InRange l k ns → ⊥) → Wrong l k s n
-  out_of_order : n ≡ 16 → (ns : List ℕ) → Says k s ns → InRange l k ns → (InOrder l k ns → ⊥) → Wrong l k s n
+pub data Wrong (l : List ℕ) (k : Kind) (s : List ℕ) (c : Cause) : Type 0 where
+  not_ended : c ≡ LineNotEnded → (HasEnd s → ⊥) → Wrong l k s c
+  other_letter : c ≡ WrongLetter → HasEnd s → (slice_index s 0 ≢ letter_of k) → Wrong l k s c
+  no_numbers : c ≡ NotNumbers → HasEnd s → slice_index s 0 ≡ letter_of k → ((ns : List ℕ) → Says k s ns → ⊥) → Wrong l k s c
+  out_of_range : c ≡ OutOfRange → (ns : List ℕ) → Says k s ns → (InRange l k ns → ⊥) → Wrong l k s c
+  out_of_order : c ≡ OutOfOrder → (ns : List ℕ) → Says k s ns → InRange l k ns → (InOrder l k ns → ⊥) → Wrong l k s c
 
 -- more follows the text of l
-pub record GoesOn (t l : List ℕ) (n p : ℕ) : Type 0 where
-  pub number : n ≡ 17
+pub record GoesOn (t l : List ℕ) (c : Cause) (p : ℕ) : Type 0 where
+  pub cause : c ≡ TextGoesOn
   pub place : p ≡ 3 + latch_count l + gate_count l
   pub whole : first_lines (p - 1) t ≡ text_of l
   pub more : after_lines (p - 1) t ≡ [] → ⊥
@@ -83,11 +85,11 @@ pub record GoesOn (t l : List ℕ) (n p : ℕ) : Type 0 where
 abbrev pub BeginsAs : ℕ → List ℕ → List ℕ → Type 0
 BeginsAs p t l = first_lines p t ≡ first_lines p (text_of l)
 
--- why t, which up to line p begins as the text of l, is refused there with number n
-abbrev pub Reason : List ℕ → List ℕ → ℕ → ℕ → Type 0
-Reason t l n p = ((k : Kind) × IsLine l k p × Wrong l k (after_lines (p - 1) t) n) ⊎ GoesOn t l n p
+-- why t, which up to line p begins as the text of l, is refused there by the check c
+abbrev pub Reason : List ℕ → List ℕ → Cause → ℕ → Type 0
+Reason t l c p = ((k : Kind) × IsLine l k p × Wrong l k (after_lines (p - 1) t) c) ⊎ GoesOn t l c p
 
--- a refusal is of no line, or there is a reason for its number and for no other, by whichever legal list the text begins as
+-- a refusal is of no line, or there is a reason for its check and for no other, by whichever legal list the text begins as
 -- up to that line
 abbrev pub Reasoned : List ℕ → Result ℕ Fault → Type 0
 Reasoned t (Ok k) = Unit {0}
@@ -96,4 +98,4 @@ Reasoned t (Err f) =
     ⊎ ((l : List ℕ)
     → Legal l
     → BeginsAs (f.place - 1) t l
-    → Reason t l f.number f.place × ((n : ℕ) → Reason t l n f.place → n ≡ f.number))
+    → Reason t l f.cause f.place × ((c : Cause) → Reason t l c f.place → c ≡ f.cause))

@@ -1,6 +1,7 @@
 -- The text of a list, and the lists that have one. Assumes nothing.
 use Rattle.std.specs.Prelude.{ℕ, zero, suc, ◌+◌, ◌-◌, ◌*◌, ◌/◌, ◌%◌, Bool, true, cond, ◌&&◌, List, [], ◌∷◌, ◌++◌, length, drop, replicate, Ok, Err, Result, ◌==◌, nat_le, nat_lt, slice_index}
 use Rattle.lists.specs.Counted.{counted, on_counted}
+use Rattle.sheet.specs.declared.fault.Cause.TheVariants.{ListTooShort, NotLegal}
 use Rattle.sheet.specs.declared.fault.Fault.{Fault}
 use Rattle.sheet.specs.declared.line.Due.{Due}
 use Rattle.sheet.specs.declared.line.Due.TheVariants.{OfLatch, OfGate}
@@ -62,10 +63,10 @@ well_formed l = fits (input_count l) (latch_count l) (gate_count l) l
 -- a text in lent bytes, with zeros behind, if there is room; the result is how many bytes it has
 abbrev pub placed : List ℕ → List ℕ → Result ℕ Fault × List ℕ
 placed t old =
-    cond (nat_le (length t) (length old)) (Ok (length t), t ++ replicate (length old - length t) 0) (Err (refusal 18 0), old)
+    cond (nat_le (length t) (length old)) (Ok (length t), t ++ replicate (length old - length t) 0) (Err (refusal ListTooShort 0), old)
 
 abbrev pub rendered : List ℕ → List ℕ → Result ℕ Fault × List ℕ
-rendered l old = cond (well_formed l) (placed (text_of l) old) (Err (refusal 21 0), old)
+rendered l old = cond (well_formed l) (placed (text_of l) old) (Err (refusal NotLegal 0), old)
 
 -- writing a list as a text into lent bytes
 abbrev pub write_text : List ℕ → List ℕ → Result ℕ Fault × List ℕ

@@ -11,7 +11,7 @@ ghost use Rattle.sheet.specs.Sheets.{Legal};
 ghost use Rattle.sheet.specs.Trip.{AcceptsLegalSheets, WritesBack};
 ghost use Rattle.sheet.specs.Seen.{line_seen, triples_seen, parts_seen, part_seen, contents_seen, pair_seen, rest_seen, bad_seen, whole_seen};
 
-use crate::fault::{Fault, Layer};
+use crate::fault::{Cause, Fault, Layer};
 use crate::line::{Due, Line, in_order, in_range};
 use lists::counted_len;
 
@@ -48,12 +48,12 @@ struct Pair<'a> {
 }
 
 // A refusal of a sheet.
-pub(crate) fn refuse(number: u32, place: u32) -> Fault
-    ensures { result ≡ refusal number place }
+pub(crate) fn refuse(cause: Cause, place: u32) -> Fault
+    ensures { result ≡ refusal cause place }
 {
     Fault {
         layer: Layer::Sheet,
-        number,
+        cause,
         place,
     }
 }
@@ -83,10 +83,7 @@ fn number(part: &[u8]) -> Option<u32>
 fn number_in(part: &[u8], place: u32) -> Result<u32, Fault>
     ensures { result ≡ number_of place part.now }
 {
-    match number(part) {
-        Some(n) => Ok(n),
-        None => Err(refuse(14, place)),
-    }
+    number(part).ok_or(refuse(Cause::NotNumbers, place))
 }
 
 // Where `byte` first stands in `s`, or the length of `s`.
@@ -162,7 +159,7 @@ fn first_line(text: &[u8], place: u32) -> Result<(&[u8], &[u8]), Fault>
 {
     let end = up_to(text, b'\n');
     if end == text.len() {
-        return Err(refuse(12, place));
+        return Err(refuse(Cause::LineNotEnded, place));
     }
     Ok((&text[0..end], &text[end + 1..]))
 }
@@ -205,13 +202,13 @@ fn read_contents(text: &[u8]) -> Result<(Counts, &[u8]), Fault>
 {
     let (line, rest) = first_line(text, 1)?;
     let Some((inputs, latches, gates)) = contents_due(line) else {
-        return Err(refuse(13, 1));
+        return Err(refuse(Cause::WrongLetter, 1));
     };
     let inputs = number_in(inputs, 1)?;
     let latches = number_in(latches, 1)?;
     let gates = number_in(gates, 1)?;
     if inputs > 24 || latches < 1 || latches > 24 || gates > 200 {
-        return Err(refuse(15, 1));
+        return Err(refuse(Cause::OutOfRange, 1));
     }
     let counts = Counts {
         inputs,
@@ -227,15 +224,15 @@ fn read_pair(text: &[u8], rule: Rule) -> Result<Pair<'_>, Fault>
 {
     let (line, rest) = first_line(text, rule.place)?;
     let Some((first, second)) = parts_due(line, rule.due) else {
-        return Err(refuse(13, rule.place));
+        return Err(refuse(Cause::WrongLetter, rule.place));
     };
     let first = number_in(first, rule.place)?;
     let second = number_in(second, rule.place)?;
     if !in_range(rule.due, rule.most, first, second) {
-        return Err(refuse(15, rule.place));
+        return Err(refuse(Cause::OutOfRange, rule.place));
     }
     if !in_order(rule.due, rule.own, first, second) {
-        return Err(refuse(16, rule.place));
+        return Err(refuse(Cause::OutOfOrder, rule.place));
     }
     Ok(Pair {
         first,
@@ -250,11 +247,11 @@ fn read_bad(text: &[u8], place: u32, most: u32) -> Result<(u32, &[u8]), Fault>
 {
     let (line, rest) = first_line(text, place)?;
     let Some(bad) = bad_due(line) else {
-        return Err(refuse(13, place));
+        return Err(refuse(Cause::WrongLetter, place));
     };
     let bad = number_in(bad, place)?;
     if bad > most {
-        return Err(refuse(15, place));
+        return Err(refuse(Cause::OutOfRange, place));
     }
     Ok((bad, rest))
 }
@@ -295,7 +292,7 @@ fn read_all(text: &[u8], pairs: &mut [u32]) -> Result<Head, Fault>
     ensures within { IfOk result (λ h. (h.counts.latches ≤ 24) × (h.counts.gates ≤ 200)) }
 {
     if text.len() > 4096 {
-        return Err(refuse(11, 0));
+        return Err(refuse(Cause::TextTooLong, 0));
     }
     let (counts, rest) = read_contents(text)?;
     let most = 2 * (counts.inputs + counts.latches + counts.gates) + 1;
@@ -316,7 +313,7 @@ fn read_all(text: &[u8], pairs: &mut [u32]) -> Result<Head, Fault>
     let rest = read_pairs(rest, first_gate, counts.gates, pairs, at)?;
     let (bad, rest) = read_bad(rest, 2 + counts.latches + counts.gates, most)?;
     if !rest.is_empty() {
-        return Err(refuse(17, 3 + counts.latches + counts.gates));
+        return Err(refuse(Cause::TextGoesOn, 3 + counts.latches + counts.gates));
     }
     Ok(Head { counts, bad })
 }
@@ -350,7 +347,7 @@ pub fn read(text: &[u8], list: &mut [u32]) -> Result<usize, Fault>
     let count = 2 * (head.counts.latches + head.counts.gates) as usize;
     let places = counted_len(list.len());
     if places < 4 + count {
-        return Err(refuse(18, 0));
+        return Err(refuse(Cause::ListTooShort, 0));
     }
     store(&mut list[0..places], head, &pairs[0..count]);
     Ok(4 + count)

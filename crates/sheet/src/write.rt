@@ -1,12 +1,13 @@
 // Writing a sheet: the text of a list, and which lists have one.
 ghost use Rattle.std.specs.Prelude.{◌≡◌, ℕ, ◌+◌, ◌*◌, ◌<◌, ◌≤◌, ◌&&◌, List, [], ◌∷◌, ◌++◌, length, take, drop, IfOk, Err, Decides};
+ghost use Rattle.sheet.specs.declared.fault.Cause.TheVariants.{ListTooShort, NotLegal};
 ghost use Rattle.lists.specs.Counted.{counted};
 ghost use Rattle.sheet.specs.Sheets.{latch_count, gate_count, size_of, Legal};
 ghost use Rattle.sheet.specs.Parse.{refusal, in_range, ordered};
 ghost use Rattle.sheet.specs.Render.{digits, line_text, pairs_text, text_of, pairs_fit, all_zero, well_formed, placed, write_text};
 ghost use Rattle.sheet.specs.Trip.{Iff, ReadsTo, ReadsBack};
 
-use crate::fault::Fault;
+use crate::fault::{Cause, Fault};
 use crate::line::{Due, in_order, in_range};
 use crate::read::refuse;
 
@@ -171,7 +172,7 @@ fn place(bytes: &[u8], text: &mut [u8]) -> Result<usize, Fault>
 {
     let count = bytes.len();
     if text.len() < count {
-        return Err(refuse(18, 0));
+        return Err(refuse(Cause::ListTooShort, 0));
     }
     text[0..count].copy_from_slice(bytes);
     text[count..].fill(0);
@@ -183,12 +184,12 @@ fn place(bytes: &[u8], text: &mut [u8]) -> Result<usize, Fault>
 pub fn write(list: &[u32], text: &mut [u8]) -> Result<usize, Fault>
     ensures writes_exactly_the_text { (result, text.new) ≡ write_text list.now text.old }
     ensures is_read_back { IfOk result (λ n. ReadsBack list.now (take n text.new)) }
-    ensures refuses_what_no_text_reads_to { Iff (result ≡ Err (refusal 21 0)) ((t : List ℕ) → ReadsTo t list.now → ⊥) }
-    ensures wants_room { Iff (result ≡ Err (refusal 18 0)) (Legal (counted list.now) × (length (counted text.old) < length (text_of (counted list.now)))) }
+    ensures refuses_what_no_text_reads_to { Iff (result ≡ Err (refusal NotLegal 0)) ((t : List ℕ) → ReadsTo t list.now → ⊥) }
+    ensures wants_room { Iff (result ≡ Err (refusal ListTooShort 0)) (Legal (counted list.now) × (length (counted text.old) < length (text_of (counted list.now)))) }
 {
     let list = lists::counted(list);
     if !is_well_formed(list) {
-        return Err(refuse(21, 0));
+        return Err(refuse(Cause::NotLegal, 0));
     }
     let mut bytes = [0; MOST_BYTES];
     let count = put_all(&mut bytes, list);

@@ -58,7 +58,7 @@ fn show_bits(rt: &HostRuntime, bits: &[bool]) -> io::Result<()> {
 
 // Says which check refused, and ends the walk.
 fn refused(rt: &HostRuntime, fault: Fault) -> anyhow::Result<()> {
-    println!(rt; "  refused: {} at {}", fault.number, fault.place)?;
+    println!(rt; "  refused: {} at {}", fault.number(), fault.place)?;
     Err(anyhow!("refused"))
 }
 

@@ -9,5 +9,5 @@ returns c =
     let said : IfOk c.format.result (λ s. string_bytes s ≡ fault_text c.args.fault) = search rules in
     record {
       says_exactly_this = said;
-      tells_the_fault = IfOk-weaker c.format.result _ _ (λ s is. tells_fault c.args.fault (string_bytes s) (search rules) (search rules) is) said;
+      tells_the_fault = IfOk-weaker c.format.result _ _ (λ s is. tells_fault c.args.fault (string_bytes s) (search rules) is) said;
     }
