@@ -35,6 +35,6 @@ fn main(rt: HostRuntime) -> io::Result<()> {
     let mut list = [0; SHEET_PLACES];
     match read(&text[0..len], &mut list) {
         Ok(_) => println!(rt; "sheet {} {} {}", list[0], list[1], list[2]),
-        Err(fault) => println!(rt; "no {} {}", fault.number(), fault.place),
+        Err(fault) => println!(rt; "{fault}"),
     }
 }

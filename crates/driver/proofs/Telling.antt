@@ -206,9 +206,13 @@ tells_report r l run text lb lt is = record {
   no_refusal = λ f e. apart r l run f (sym is ∙ e);
 }
 
+-- the words of a refusal, and the line's end, are those of a line
+as_line : (f : Fault) → fault_text f ≡ line_text (codes "no") (cause_number f.cause ∷ f.place ∷ [])
+as_line f = ap (λ (r : List ℕ). 110 ∷ 111 ∷ 32 ∷ r) (append_assoc (decimal (cause_number f.cause)) (32 ∷ decimal f.place) (10 ∷ []))
+
 pub tells_fault : (f : Fault) (text : List ℕ) → f.place < 2 ^ 32 → text ≡ fault_text f → TellsFault f text
 tells_fault f text lp is = record {
   numbers = λ g lp' e. two_numbers (cause_number f.cause) f.place (cause_number g.cause) g.place [] [] (number_small f.cause) lp (number_small g.cause) lp'
-      (ap (λ (ys : List ℕ). drop 2 ys ++ []) (sym is ∙ e));
+      (ap (λ (ys : List ℕ). drop 2 ys ++ []) (sym (as_line f) ∙ sym is ∙ e ∙ as_line g));
   no_verdict = λ r l run e. apart r l run f (sym e ∙ is);
 }

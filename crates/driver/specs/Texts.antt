@@ -2,7 +2,7 @@
 use Rattle.std.specs.Prelude.{◌≡◌, ℕ, zero, suc, ◌^◌, ◌<◌, List, [], ◌∷◌, ◌++◌, map, length, drop, codes, decimal, ◌≢◌}
 use Rattle.lists.specs.Counted.{counted}
 use Rattle.sheet.specs.Sheets.{Sheet, input_count, latch_count}
-use Rattle.sheet.specs.Faults.{cause_number}
+use Rattle.sheet.specs.Faults.{cause_number, fault_words}
 use Rattle.sheet.specs.declared.fault.Fault.{Fault}
 use Rattle.machine.specs.Runs.{Frame}
 use Rattle.checker.specs.Points.{sheet_in}
@@ -53,7 +53,7 @@ abbrev pub ended_text : Report → List ℕ → List ℕ → List ℕ
 ended_text r l run = report_text r ++ run_text r.verdict (latch_count (counted l)) (input_count (counted l)) (counted run)
 
 abbrev pub fault_text : Fault → List ℕ
-fault_text f = line_text (codes "no") (cause_number f.cause ∷ f.place ∷ [])
+fault_text f = fault_words f ++ (10 ∷ [])
 
 -- ---- what a text tells
 -- a verdict, as far as a text names it: not which list was too short

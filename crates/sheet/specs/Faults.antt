@@ -1,5 +1,5 @@
 -- Refusals, and how a result goes on from one check to the next. Assumes nothing.
-use Rattle.std.specs.Prelude.{ℕ, Bool, cond, Some, None, Ok, Err, Option, Result}
+use Rattle.std.specs.Prelude.{ℕ, Bool, cond, List, ◌∷◌, ◌++◌, codes, decimal, Some, None, Ok, Err, Option, Result}
 use Rattle.sheet.specs.declared.fault.Cause.{Cause}
 use Rattle.sheet.specs.declared.fault.Cause.TheVariants.{TextTooLong, LineNotEnded, WrongLetter, NotNumbers, OutOfRange, OutOfOrder, TextGoesOn, ListTooShort, NotLegal, StepLimit, TurnLimit, StartFormulaTooLong, StartQuestionTooLong, WrongCount, NotABit, FalseClause, NotWhole, LaterLine, PivotNotOpposed, Clash, WorkTooShort, NotEmpty, RunTooShort, NoAnswer}
 use Rattle.sheet.specs.declared.fault.Layer.{Layer}
@@ -34,6 +34,10 @@ cause_number NoAnswer = 61
 
 abbrev pub fault : Layer → Cause → ℕ → Fault
 fault y c p = record { layer = y; cause = c; place = p }
+
+-- a refusal as it is printed
+abbrev pub fault_words : Fault → List ℕ
+fault_words f = codes "no" ++ (32 ∷ (decimal (cause_number f.cause) ++ (32 ∷ decimal f.place)))
 
 -- go on with what was found
 abbrev pub and_then : {X Y : Type 0} → Result X Fault → (X → Result Y Fault) → Result Y Fault

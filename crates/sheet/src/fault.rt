@@ -1,6 +1,8 @@
 // Refusals, of every layer.
-ghost use Rattle.std.specs.Prelude.{◌≡◌};
-ghost use Rattle.sheet.specs.Faults.{cause_number};
+ghost use Rattle.std.specs.Prelude.{◌≡◌, Some};
+ghost use Rattle.sheet.specs.Faults.{cause_number, fault_words};
+
+use std::fmt;
 
 // What refused.
 #[derive(Clone, Copy, PartialEq, Eq)]
@@ -57,5 +59,15 @@ impl Fault {
         ensures is_the_number_of_the_check { result ≡ cause_number self.cause }
     {
         self.cause as u32
+    }
+}
+
+impl fmt::Display for Fault {
+    ghost output = { λ f. Some (fault_words f) };
+
+    fn fmt<W: fmt::Write>(&self, f: &mut fmt::Formatter<W>) -> fmt::Result {
+        let number = self.number();
+        let place = self.place;
+        write!(f, "no {number} {place}")
     }
 }
