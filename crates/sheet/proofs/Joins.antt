@@ -1,13 +1,7 @@
 -- Writes one behind the other. Assumes nothing.
-use Rattle.std.proofs.Common.{◌≡◌, ℕ, zero, suc, ◌+◌, ◌-◌, ◌<◌, ◌≤◌, List, [], ◌∷◌, ◌++◌, length, get_or, take, drop, sym, refl, ap, ◌∙◌, arith}
-use Rattle.std.proofs.lemmas.List.{append_assoc, at_drop_more, at_drop_all, get_or-drop, drop-drop, drop_more}
+use Rattle.std.proofs.Common.{◌≡◌, ℕ, zero, suc, ◌+◌, ◌-◌, ◌<◌, ◌≤◌, List, [], ◌∷◌, ◌++◌, length, get_or, drop, sym, ap, ◌∙◌, arith}
+use Rattle.std.proofs.lemmas.List.{append_assoc, at_drop_more, at_drop_all, get_or-drop, drop-drop}
 use Rattle.sheet.specs.Render.{digits, numbers_text, line_text, pairs_text}
-
-pub two_bytes : (s : List ℕ) (x y : ℕ) → (s ++ (x ∷ [])) ++ (y ∷ []) ≡ s ++ (x ∷ y ∷ [])
-two_bytes s x y = simp append_assoc
-
-pub three_bytes : (s : List ℕ) (x y z : ℕ) → ((s ++ (x ∷ [])) ++ (y ∷ [])) ++ (z ∷ []) ≡ s ++ (x ∷ y ∷ z ∷ [])
-three_bytes s x y z = simp append_assoc
 
 -- the next number of a line, which follows what was written: s, then s with a space, then t
 pub number_more : (ns : List ℕ) (i : ℕ) (s t u : List ℕ) → i < length ns → t ≡ s ++ (32 ∷ []) → u ≡ t ++ digits (get_or ns i 0) → u ++ numbers_text (drop (i + 1) ns) ≡ s ++ numbers_text (drop i ns)
@@ -25,13 +19,6 @@ line_end ns i x s t u v h e f g =
     let joined : (s ++ (x ∷ [])) ++ numbers_text ns ≡ s ++ (x ∷ numbers_text ns) = simp append_assoc in
     cc
 
--- two numbers of a list, as a list of their own
-pub pair_at : (l : List ℕ) (k : ℕ) → k + 1 < length l → take (k + 2 - k) (drop k l) ≡ get_or l k 0 ∷ get_or l (k + 1) 0 ∷ []
-pair_at l k h =
-    let two : k + 2 - k ≡ 2 = omega arith in
-    ap (λ (j : ℕ). take j (drop k l)) two
-    ∙ ap (take 2) (drop_more l k 0 (omega arith) ∙ ap (λ r. get_or l k 0 ∷ r) (drop_more l (k + 1) 0 h))
-
 -- the next of n lines, whose numbers lie in a list from k on
 pub pairs_text_more : (n x k : ℕ) (l : List ℕ) → 0 < n → pairs_text n x (drop k l) ≡ line_text x (get_or l k 0 ∷ get_or l (k + 1) 0 ∷ []) ++ pairs_text (n - 1) x (drop (k + 2) l)
 pairs_text_more zero x k l h = absurd (omega arith)
@@ -44,33 +31,10 @@ pairs_text_more (suc n) x k l h =
     cc
 
 -- one of n lines is written, behind s
-pub pair_more : (n x k : ℕ) (l s t : List ℕ) (n' k' : ℕ) → 0 < n → k + 1 < length l → t ≡ s ++ line_text x (take (k + 2 - k) (drop k l)) → n' ≡ n - 1 → k' ≡ k + 2 → t ++ pairs_text n' x (drop k' l) ≡ s ++ pairs_text n x (drop k l)
-pair_more n x k l s t n' k' some there is less on =
+pub pair_more : (n x k : ℕ) (l s t : List ℕ) (n' k' : ℕ) → 0 < n → t ≡ s ++ line_text x (get_or l k 0 ∷ get_or l (k + 1) 0 ∷ []) → n' ≡ n - 1 → k' ≡ k + 2 → t ++ pairs_text n' x (drop k' l) ≡ s ++ pairs_text n x (drop k l)
+pair_more n x k l s t n' k' some is less on =
     let line = line_text x (get_or l k 0 ∷ get_or l (k + 1) 0 ∷ []) in
     let left = pairs_text (n - 1) x (drop (k + 2) l) in
-    (λ i. (is ∙ ap (λ p. s ++ line_text x p) (pair_at l k there)) i ++ pairs_text (less i) x (drop (on i) l))
+    (λ i. is i ++ pairs_text (less i) x (drop (on i) l))
     ∙ append_assoc s line left
     ∙ ap (λ r. s ++ r) (sym (pairs_text_more n x k l some))
-
--- the numbers of the contents line, and the bad literal, as lists of their own
-pub contents_at : (l : List ℕ) → 4 ≤ length l → take (3 - 0) l ≡ get_or l 0 0 ∷ get_or l 1 0 ∷ get_or l 2 0 ∷ []
-contents_at [] h = absurd (omega arith)
-contents_at (a ∷ []) h = absurd (omega arith)
-contents_at (a ∷ b ∷ []) h = absurd (omega arith)
-contents_at (a ∷ b ∷ c ∷ l) h = refl
-
-bad_at : (l : List ℕ) → 4 ≤ length l → take (4 - 3) (drop 3 l) ≡ get_or l 3 0 ∷ []
-bad_at [] h = absurd (omega arith)
-bad_at (a ∷ []) h = absurd (omega arith)
-bad_at (a ∷ b ∷ []) h = absurd (omega arith)
-bad_at (a ∷ b ∷ c ∷ []) h = absurd (omega arith)
-bad_at (a ∷ b ∷ c ∷ d ∷ l) h = refl
-
-pub bad_line : (l s t : List ℕ) → 4 ≤ length l → t ≡ s ++ line_text 98 (take (4 - 3) (drop 3 l)) → t ≡ s ++ line_text 98 (get_or l 3 0 ∷ [])
-bad_line l s t h is = is ∙ ap (λ p. s ++ line_text 98 p) (bad_at l h)
-
--- four parts, each behind what was written before
-pub four_parts : (t u v w a b c d : List ℕ) → t ≡ a → u ≡ t ++ b → v ≡ u ++ c → w ≡ v ++ d → w ≡ a ++ (b ++ (c ++ d))
-four_parts t u v w a b c d e f g h =
-    let joined : ((a ++ b) ++ c) ++ d ≡ a ++ (b ++ (c ++ d)) = simp append_assoc in
-    cc

@@ -1,21 +1,12 @@
 -- The tests of a list, pair by pair and place by place. Assumes nothing.
 use Rattle.std.proofs.Common.{◌≡◌, ℕ, zero, suc, ◌+◌, ◌-◌, ◌*◌, ◌<◌, ◌≤◌, Bool, true, false, ◌&&◌, List, length, get_or, drop, sym, ap, ◌∙◌, arith}
-use Rattle.std.proofs.lemmas.List.{at_drop_more, at_drop_all, get_or-drop, drop-drop}
-use Rattle.std.proofs.lemmas.Bool.{eq-eqb, ne_eqb, le-leb, and_from}
+use Rattle.std.proofs.lemmas.List.{get_or-drop, drop-drop}
+use Rattle.std.proofs.lemmas.Bool.{le-leb, and_from}
 use Rattle.sheet.specs.declared.line.Due.{Due}
 use Rattle.sheet.specs.declared.line.Due.TheVariants.{OfLatch, OfGate}
 use Rattle.sheet.specs.Sheets.{most_literal, bad_of}
 use Rattle.sheet.specs.Render.{pairs_fit, all_zero, fits}
 use Rattle.sheet.proofs.Legality.{pair_fits}
-
-pub zero_here : (l : List ℕ) (i : ℕ) → i < length l → get_or l i 0 ≡ 0 → all_zero (drop i l) ≡ all_zero (drop (i + 1) l)
-zero_here l i h e = at_drop_more all_zero l i 0 h ∙ ap (λ b. b && all_zero (drop (i + 1) l)) (eq-eqb _ 0 e)
-
-pub not_zero_here : (l : List ℕ) (i : ℕ) → i < length l → (get_or l i 0 ≡ 0 → ⊥) → all_zero (drop i l) ≡ false
-not_zero_here l i h e = at_drop_more all_zero l i 0 h ∙ ap (λ b. b && all_zero (drop (i + 1) l)) (ne_eqb _ 0 e)
-
-pub zero_end : (l : List ℕ) (i : ℕ) → length l ≤ i → all_zero (drop i l) ≡ true
-zero_end l i h = at_drop_all all_zero l i h
 
 -- the next of n pairs, which lie in a list from k on
 pairs_fit_more : (n : ℕ) (d : Due) (most own k : ℕ) (l : List ℕ) → 0 < n → pairs_fit n d most own (drop k l) ≡ (pair_fits d most own (get_or l k 0) (get_or l (k + 1) 0) && pairs_fit (n - 1) d most (own + 1) (drop (k + 2) l))

@@ -1,7 +1,7 @@
 -- Steps over the lines of a text. Assumes nothing.
 use Rattle.std.proofs.Common.{◌≡◌, ℕ, zero, suc, ◌+◌, ◌-◌, ◌<◌, ◌≤◌, true, ltb, List, [], ◌∷◌, ◌++◌, length, take, drop, set, replicate, Ok, Err, sym, ap, ◌∙◌, subst, arith}
 use borrow.Rule.Slice.PartMut.{put_mid}
-use Rattle.std.proofs.lemmas.List.{take_rest, take_more_set, append_assoc, length-set, drop-replicate}
+use Rattle.std.proofs.lemmas.List.{take_rest, drop-replicate}
 use Rattle.std.proofs.lemmas.Bool.{cond-true, lt-ltb}
 use Rattle.sheet.specs.declared.fault.Fault.{Fault}
 use Rattle.sheet.specs.declared.line.Due.{Due}
@@ -30,13 +30,6 @@ pub pairs_stop : (n : ℕ) (d : Due) (most own : ℕ) (before : List ℕ) (p : �
 pairs_stop zero d most own before p t e h q = absurd (omega arith)
 pairs_stop (suc n) d most own before p t e h q =
     ap (λ r. and_then r (λ r. read_pairs n d most (own + 1) (before ++ (r.0 ∷ r.1 ∷ [])) (p + 1) r.2)) (sym q)
-
--- two numbers more
-pub take_two : (l : List ℕ) (k a b : ℕ) → k + 1 < length l → take (k + 1 + 1) (set (set l k a) (k + 1) b) ≡ take k l ++ (a ∷ b ∷ [])
-take_two l k a b h =
-    take_more_set (set l k a) (k + 1) b (simp length-set h)
-    ∙ ap (λ s. s ++ (b ∷ [])) (take_more_set l k a (omega arith))
-    ∙ append_assoc (take k l) (a ∷ []) (b ∷ [])
 
 -- four numbers, and then a list, written over zeros
 pub store_all : (n a b d e : ℕ) (ps : List ℕ) → 4 + length ps ≤ n → put_mid 4 (4 + length ps - 4) (set (set (set (set (replicate n 0) 0 a) 1 b) 2 d) 3 e) ps ≡ a ∷ b ∷ d ∷ e ∷ (ps ++ replicate (n - (4 + length ps)) 0)

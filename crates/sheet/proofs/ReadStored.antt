@@ -1,13 +1,11 @@
 -- What reading leaves in a lent list, of which k places count. Assumes nothing.
-use Rattle.std.proofs.Common.{◌≡◌, ℕ, ◌+◌, ◌-◌, ◌*◌, ◌^◌, ◌<◌, ◌≤◌, min, List, ◌∷◌, ◌++◌, length, take, drop, replicate, Ok, Err, Result, sym, ap, ◌∙◌, ⊎_elim, arith}
+use Rattle.std.proofs.Common.{◌≡◌, ℕ, ◌-◌, ◌^◌, ◌<◌, ◌≤◌, min, List, ◌++◌, length, take, drop, replicate, Ok, Err, Result, sym, ap, ◌∙◌, ⊎_elim, arith}
 use Rattle.std.proofs.lemmas.List.{take-append-drop, length-take, length-take-le, drop_all}
 use Rattle.std.proofs.lemmas.Bool.{cond-true, cond-false, le-leb, lt-leb, cases_lt}
 use Rattle.lists.specs.Counted.{counted, uncounted, on_counted}
 use Rattle.sheet.specs.declared.fault.Cause.TheVariants.{ListTooShort}
 use Rattle.sheet.specs.declared.fault.Fault.{Fault}
-use Rattle.sheet.specs.declared.read.Head.{Head}
 use Rattle.sheet.specs.Parse.{parse, refusal, stored, read_text}
-use Rattle.sheet.specs.Seen.{whole_seen}
 
 -- what a call returns, and what it leaves
 abbrev leaves : Result ℕ Fault → List ℕ → Result ℕ Fault × List ℕ
@@ -35,30 +33,20 @@ onward t old new p is gives = ap (λ q. leaves q.0 (q.1 ++ uncounted old)) gives
 length_counted : (old : List ℕ) (k : ℕ) → k ≡ min (length old) (2 ^ 28) → length (counted old) ≡ k
 length_counted old k cut = omega (arith, length-take (2 ^ 28) old)
 
-length_whole : (pairs : List ℕ) (h : Head) (n : ℕ) → n ≡ 2 * (h.counts.latches + h.counts.gates) → n ≤ length pairs → length (whole_seen pairs h) ≡ 4 + n
-length_whole pairs h n is room = omega (arith, length-take-le (2 * (h.counts.latches + h.counts.gates)) pairs (omega arith))
-
-pub read_short : (t old pairs : List ℕ) (h : Head) (k n : ℕ) → Ok (whole_seen pairs h) ≡ parse t → n ≡ 2 * (h.counts.latches + h.counts.gates) → n ≤ length pairs → k ≡ min (length old) (2 ^ 28) → k < 4 + n → (Err (refusal ListTooShort 0), old) ≡ read_text t old
-read_short t old pairs h k n is size room cut short =
+pub read_short : (t old whole : List ℕ) (k n : ℕ) → Ok whole ≡ parse t → n ≡ length whole → k ≡ min (length old) (2 ^ 28) → k < n → (Err (refusal ListTooShort 0), old) ≡ read_text t old
+read_short t old whole k n is size cut short =
     let most = length_counted old k cut in
-    let long = length_whole pairs h n size room in
     kept old (refusal ListTooShort 0)
-    ∙ onward t old (whole_seen pairs h) (Err (refusal ListTooShort 0), counted old) is (sym (cond-false _ _ _ (lt-leb (length (whole_seen pairs h)) (length (counted old)) (omega arith))))
+    ∙ onward t old whole (Err (refusal ListTooShort 0), counted old) is (sym (cond-false _ _ _ (lt-leb (length whole) (length (counted old)) (omega arith))))
 
 -- `new` is what was stored in the places that count
-pub read_stored : (t old pairs new : List ℕ) (h : Head) (k n : ℕ) → Ok (whole_seen pairs h) ≡ parse t → n ≡ 2 * (h.counts.latches + h.counts.gates) → n ≤ length pairs → k ≡ min (length old) (2 ^ 28) → 4 + n ≤ k → new ≡ (h.counts.inputs ∷ h.counts.latches ∷ h.counts.gates ∷ h.bad ∷ take (n - 0) pairs) ++ replicate (length (take (k - 0) old) - (4 + length (take (n - 0) pairs))) 0 → (Ok (4 + n), new ++ drop (k - 0) old) ≡ read_text t old
-read_stored t old pairs new h k n is size room cut wide made =
-    let whole = whole_seen pairs h in
+pub read_stored : (t old whole new : List ℕ) (k n : ℕ) → Ok whole ≡ parse t → n ≡ length whole → k ≡ min (length old) (2 ^ 28) → n ≤ k → new ≡ whole ++ replicate (length (take (k - 0) old) - length whole) 0 → (Ok n, new ++ drop (k - 0) old) ≡ read_text t old
+read_stored t old whole new k n is size cut wide made =
     let most = length_counted old k cut in
-    let long = length_whole pairs h n size room in
-    let all : n - 0 ≡ 2 * (h.counts.latches + h.counts.gates) = omega arith in
-    let front = length-take-le (n - 0) pairs (omega arith) in
     let part = length-take-le (k - 0) old (omega arith) in
-    let zeros : length (take (k - 0) old) - (4 + length (take (n - 0) pairs)) ≡ length (counted old) - length whole = omega arith in
-    let same : new ≡ whole ++ replicate (length (counted old) - length whole) 0 =
-    made ∙ ap (λ m. (h.counts.inputs ∷ h.counts.latches ∷ h.counts.gates ∷ h.bad ∷ take (n - 0) pairs) ++ replicate m 0) zeros
-    ∙ ap (λ m. (h.counts.inputs ∷ h.counts.latches ∷ h.counts.gates ∷ h.bad ∷ take m pairs) ++ replicate (length (counted old) - length whole) 0) all in
-    let fits : leaves (Ok (4 + n)) new ≡ stored (Ok whole) (counted old) =
-    ap (λ m. leaves (Ok m) new) (sym long) ∙ ap (leaves (Ok (length whole))) same ∙ sym (cond-true _ _ _ (le-leb (length whole) (length (counted old)) (omega arith))) in
-    ap (λ l. leaves (Ok (4 + n)) (new ++ l)) (drop_min old (2 ^ 28) (k - 0) (omega arith))
-    ∙ onward t old whole (Ok (4 + n), new) is fits
+    let zeros : length (take (k - 0) old) - length whole ≡ length (counted old) - length whole = omega arith in
+    let same : new ≡ whole ++ replicate (length (counted old) - length whole) 0 = made ∙ ap (λ m. whole ++ replicate m 0) zeros in
+    let fits : leaves (Ok n) new ≡ stored (Ok whole) (counted old) =
+    ap (λ m. leaves (Ok m) new) size ∙ ap (leaves (Ok (length whole))) same ∙ sym (cond-true _ _ _ (le-leb (length whole) (length (counted old)) (omega arith))) in
+    ap (λ l. leaves (Ok n) (new ++ l)) (drop_min old (2 ^ 28) (k - 0) (omega arith))
+    ∙ onward t old whole (Ok n, new) is fits

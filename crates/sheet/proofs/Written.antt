@@ -110,12 +110,11 @@ drop_min xs n m is =
     (cases_lt n (length xs))
 
 -- a text that was made elsewhere, and put into what counts
-pub writes_whole : (l old bytes : List ℕ) (count len : ℕ) (c : List ℕ) (r : Result ℕ Fault) (t : List ℕ) → c ≡ counted l → true ≡ well_formed c → take count bytes ≡ text_of c → len ≡ min (length old) (2 ^ 28) → (r, t) ≡ placed (take (count - 0) bytes) (take (len - 0) old) → (r, t ++ post_of 0 (len - 0) old) ≡ write_text l old
-writes_whole l old bytes count len c r t is formed text cut put =
-    let k : count - 0 ≡ count = omega arith in
+pub writes_whole : (l old : List ℕ) (len : ℕ) (c bytes : List ℕ) (r : Result ℕ Fault) (t : List ℕ) → c ≡ counted l → true ≡ well_formed c → bytes ≡ text_of c → len ≡ min (length old) (2 ^ 28) → (r, t) ≡ placed bytes (take (len - 0) old) → (r, t ++ post_of 0 (len - 0) old) ≡ write_text l old
+writes_whole l old len c bytes r t is formed text cut put =
     let front : take (len - 0) old ≡ counted old = take_min old (2 ^ 28) (len - 0) (omega arith) in
     let rest : drop (len - 0) old ≡ uncounted old = drop_min old (2 ^ 28) (len - 0) (omega arith) in
-    let whole : take (count - 0) bytes ≡ text_of (counted l) = ap (λ j. take j bytes) k ∙ text ∙ ap text_of is in
+    let whole : bytes ≡ text_of (counted l) = text ∙ ap text_of is in
     let done : (r, t) ≡ rendered (counted l) (counted old) = put ∙ (λ i. placed (whole i) (front i)) ∙ sym (cond-true _ _ _ (sym (formed ∙ ap well_formed is))) in
     (λ i. ((done i).0, (done i).1 ++ rest i))
 

@@ -1,5 +1,6 @@
 -- The text of a list, and the lists that have one. Assumes nothing.
 use Rattle.std.specs.Prelude.{ℕ, zero, suc, ◌+◌, ◌-◌, ◌*◌, ◌/◌, ◌%◌, Bool, true, cond, ◌&&◌, List, [], ◌∷◌, ◌++◌, length, drop, replicate, Ok, Err, Result, ◌==◌, nat_le, nat_lt, slice_index}
+use Rattle.std.specs.List.{list_all}
 use Rattle.lists.specs.Counted.{counted, on_counted}
 use Rattle.sheet.specs.declared.fault.Cause.TheVariants.{ListTooShort, NotLegal}
 use Rattle.sheet.specs.declared.fault.Fault.{Fault}
@@ -45,8 +46,7 @@ pairs_fit (suc n) d most own s =
     (in_range d most (slice_index s 0) (slice_index s 1) && ordered d own (slice_index s 0) (slice_index s 1)) && pairs_fit n d most (own + 1) (drop 2 s)
 
 abbrev pub all_zero : List ℕ → Bool
-all_zero [] = true
-all_zero (x ∷ s) = x == 0 && all_zero s
+all_zero s = list_all (λ x. x == 0) s
 
 -- a list that says i inputs, n latches and m gates is one that a text gives
 abbrev pub fits : ℕ → ℕ → ℕ → List ℕ → Bool

@@ -1,9 +1,9 @@
 -- What the code returns while it reads, at what that borrows of the text. Assumes nothing.
-use Rattle.std.specs.Prelude.{ℕ, ◌+◌, ◌*◌, List, ◌∷◌, take, Some, None, Option}
+use Rattle.std.specs.Prelude.{ℕ, List, ◌∷◌, Some, None, Option}
 use Rattle.std.specs.Borrow.{Bor}
 use Rattle.sheet.specs.declared.read.Counts.{Counts}
 use Rattle.sheet.specs.declared.read.Pair.{Pair}
-use Rattle.sheet.specs.declared.read.Head.{Head}
+use Rattle.sheet.specs.declared.read.Whole.{Whole}
 
 abbrev pub line_seen : Bor (List ℕ) × Bor (List ℕ) → List ℕ × List ℕ
 line_seen x = (x.0.now, x.1.now)
@@ -33,8 +33,6 @@ bad_seen x = (x.0, x.1.now)
 abbrev pub rest_seen : List ℕ → Bor (List ℕ) → List ℕ × List ℕ
 rest_seen before x = (before, x.now)
 
--- the list that a head and the pairs make
-abbrev pub whole_seen : List ℕ → Head → List ℕ
-whole_seen pairs h =
-    h.counts.inputs ∷ h.counts.latches ∷ h.counts.gates ∷ h.bad
-    ∷ take (2 * (h.counts.latches + h.counts.gates)) pairs
+-- the list that a whole text gives
+abbrev pub whole_seen : Whole → List ℕ
+whole_seen w = w.counts.inputs ∷ w.counts.latches ∷ w.counts.gates ∷ w.bad ∷ w.pairs.items

@@ -1,6 +1,7 @@
 // Reads the text of a sheet into the list that lays it out. Each line is cut into the parts that should be numbers, and
 // those are then read; the numbers are gathered apart from the lent list, so that a refusal writes nothing to it.
-ghost use Rattle.std.specs.Prelude.{◌≡◌, ◌+◌, ◌-◌, ◌*◌, ◌^◌, ◌<◌, ◌≤◌, ◌∷◌, ◌++◌, length, take, replicate, IfOk, OnOk};
+ghost use Rattle.std.specs.Prelude.{◌≡◌, ◌+◌, ◌-◌, ◌*◌, ◌^◌, ◌<◌, ◌≤◌, ◌∷◌, ◌++◌, length, replicate, position, ◌==◌, IfOk, OnOk};
+ghost use Rattle.arrayvec.specs.ArrayVec.{array_vec_len};
 ghost use Rattle.lists.specs.Counted.{counted};
 ghost use Rattle.sheet.specs.Faults.{map_ok};
 ghost use Rattle.sheet.specs.Parts.{up_to, spelled, spaced, former, further, latter, shape, seen};
@@ -13,6 +14,7 @@ ghost use Rattle.sheet.specs.Seen.{line_seen, triples_seen, parts_seen, part_see
 
 use crate::fault::{Cause, Fault, Layer};
 use crate::line::{Due, Line, in_order, in_range};
+use arrayvec::ArrayVec;
 use lists::counted_len;
 
 // How many inputs, latches and gates there are.
@@ -23,11 +25,15 @@ struct Counts {
     gates: u32,
 }
 
-// The numbers of a list before its pairs.
-#[derive(Clone, Copy)]
-struct Head {
+// The pairs of numbers of latches and gates: a legal sheet has at most 224.
+type Pairs = ArrayVec<u32, 448>;
+
+// All that a text says.
+#[derive(Drop)]
+struct Whole {
     counts: Counts,
     bad: u32,
+    pairs: Pairs,
 }
 
 // Which line of two numbers is due, at which place of the text, the largest literal, and the node that the line is of.
@@ -86,17 +92,18 @@ fn number_in(part: &[u8], place: u32) -> Result<u32, Fault>
     number(part).ok_or(refuse(Cause::NotNumbers, place))
 }
 
+fn first_place(s: &[u8], byte: u8) -> Option<usize>
+    ensures { result ≡ position (λ x. x == byte) s.now }
+{
+    s.iter().position(|x| *x == byte)
+}
+
 // Where `byte` first stands in `s`, or the length of `s`.
 fn up_to(s: &[u8], byte: u8) -> usize
     ensures first { result ≡ up_to byte s.now }
     ensures within { result ≤ length s.now }
 {
-    for (i, x) in s.iter().enumerate() {
-        if *x == byte {
-            return i;
-        }
-    }
-    s.len()
+    first_place(s, byte).unwrap_or(s.len())
 }
 
 // What follows one space at the front of `s`; nothing where there is none.
@@ -256,19 +263,19 @@ fn read_bad(text: &[u8], place: u32, most: u32) -> Result<(u32, &[u8]), Fault>
     Ok((bad, rest))
 }
 
-// `count` lines of two numbers, the first as `rule` says; the numbers go into `out` from `at` on. The result is what
-// follows the lines.
+// `count` lines of two numbers, the first as `rule` says; the numbers are added to `pairs`. The result is what follows the
+// lines.
 fn read_pairs<'a>(
     text: &'a [u8],
     rule: Rule,
     count: u32,
-    out: &mut [u32],
-    at: usize,
+    pairs: &mut Pairs,
 ) -> Result<&'a [u8], Fault>
-    requires room { at + 2 * count ≤ length out.old }
+    requires room { array_vec_len pairs.old + 2 * count ≤ 448 }
     requires places { rule.place + count < 2 ^ 32 }
     requires nodes { rule.own + count < 2 ^ 32 }
-    ensures { map_ok (rest_seen (take (at + 2 * count) out.new)) result ≡ read_pairs count rule.due rule.most rule.own (take at out.old) rule.place text.now }
+    ensures read_off { map_ok (rest_seen pairs.new.items) result ≡ read_pairs count rule.due rule.most rule.own pairs.old.items rule.place text.now }
+    ensures all { IfOk result (λ _. array_vec_len pairs.new ≡ array_vec_len pairs.old + 2 * count) }
 {
     let mut rest = text;
     for i in 0..count {
@@ -278,18 +285,16 @@ fn read_pairs<'a>(
             ..rule
         };
         let pair = read_pair(rest, here)?;
-        out[at + 2 * i as usize] = pair.first;
-        out[at + 2 * i as usize + 1] = pair.second;
+        pairs.push(pair.first);
+        pairs.push(pair.second);
         rest = pair.rest;
     }
     Ok(rest)
 }
 
-// The whole text. The pairs of numbers go into `pairs`.
-fn read_all(text: &[u8], pairs: &mut [u32]) -> Result<Head, Fault>
-    requires { length pairs.old ≡ 448 }
-    ensures read_off { map_ok (whole_seen pairs.new) result ≡ parse text.now }
-    ensures within { IfOk result (λ h. (h.counts.latches ≤ 24) × (h.counts.gates ≤ 200)) }
+// The whole text.
+fn read_all(text: &[u8]) -> Result<Whole, Fault>
+    ensures { map_ok whole_seen result ≡ parse text.now }
 {
     if text.len() > 4096 {
         return Err(refuse(Cause::TextTooLong, 0));
@@ -308,26 +313,27 @@ fn read_all(text: &[u8], pairs: &mut [u32]) -> Result<Head, Fault>
         most,
         own: 1 + counts.inputs + counts.latches,
     };
-    let rest = read_pairs(rest, first_latch, counts.latches, pairs, 0)?;
-    let at = 2 * counts.latches as usize;
-    let rest = read_pairs(rest, first_gate, counts.gates, pairs, at)?;
+    let mut pairs = Pairs::new();
+    let rest = read_pairs(rest, first_latch, counts.latches, &mut pairs)?;
+    let rest = read_pairs(rest, first_gate, counts.gates, &mut pairs)?;
     let (bad, rest) = read_bad(rest, 2 + counts.latches + counts.gates, most)?;
     if !rest.is_empty() {
         return Err(refuse(Cause::TextGoesOn, 3 + counts.latches + counts.gates));
     }
-    Ok(Head { counts, bad })
+    Ok(Whole { counts, bad, pairs })
 }
 
-// Writes the four numbers of `head`, then `pairs`, then zeros.
-fn store(list: &mut [u32], head: Head, pairs: &[u32])
-    requires { 4 + length pairs.now ≤ length list.old }
-    ensures { list.new ≡ (head.counts.inputs ∷ head.counts.latches ∷ head.counts.gates ∷ head.bad ∷ pairs.now) ++ replicate (length list.old - (4 + length pairs.now)) 0 }
+// Writes what was read, and zeros behind it.
+fn store(list: &mut [u32], whole: &Whole)
+    requires { length (whole_seen whole.now) ≤ length list.old }
+    ensures { list.new ≡ whole_seen whole.now ++ replicate (length list.old - length (whole_seen whole.now)) 0 }
 {
+    let pairs = whole.pairs.as_slice();
     list.fill(0);
-    list[0] = head.counts.inputs;
-    list[1] = head.counts.latches;
-    list[2] = head.counts.gates;
-    list[3] = head.bad;
+    list[0] = whole.counts.inputs;
+    list[1] = whole.counts.latches;
+    list[2] = whole.counts.gates;
+    list[3] = whole.bad;
     list[4..4 + pairs.len()].copy_from_slice(pairs);
 }
 
@@ -342,13 +348,12 @@ pub fn read(text: &[u8], list: &mut [u32]) -> Result<usize, Fault>
     ensures leaves_a_legal_list { IfOk result (λ n. Legal (counted list.new) × (n ≤ length list.new)) }
     ensures is_written_back { OnOk result (WritesBack text.now list.new) }
 {
-    let mut pairs = [0; 448];
-    let head = read_all(text, &mut pairs)?;
-    let count = 2 * (head.counts.latches + head.counts.gates) as usize;
+    let whole = read_all(text)?;
+    let count = 4 + whole.pairs.len();
     let places = counted_len(list.len());
-    if places < 4 + count {
+    if places < count {
         return Err(refuse(Cause::ListTooShort, 0));
     }
-    store(&mut list[0..places], head, &pairs[0..count]);
-    Ok(4 + count)
+    store(&mut list[0..places], &whole);
+    Ok(count)
 }

@@ -1,6 +1,7 @@
 // Writing a sheet: the text of a list, and which lists have one.
 ghost use Rattle.std.specs.Prelude.{◌≡◌, ℕ, ◌+◌, ◌*◌, ◌<◌, ◌≤◌, ◌&&◌, List, [], ◌∷◌, ◌++◌, length, take, drop, IfOk, Err, Decides};
 ghost use Rattle.sheet.specs.declared.fault.Cause.TheVariants.{ListTooShort, NotLegal};
+ghost use Rattle.arrayvec.specs.ArrayVec.{array_vec_len};
 ghost use Rattle.lists.specs.Counted.{counted};
 ghost use Rattle.sheet.specs.Sheets.{latch_count, gate_count, size_of, Legal};
 ghost use Rattle.sheet.specs.Parse.{refusal, in_range, ordered};
@@ -10,10 +11,13 @@ ghost use Rattle.sheet.specs.Trip.{Iff, ReadsTo, ReadsBack};
 use crate::fault::{Cause, Fault};
 use crate::line::{Due, in_order, in_range};
 use crate::read::refuse;
+use arrayvec::ArrayVec;
 
 // No text is longer: a contents line of at most 14 bytes, 224 lines of at most 10, and the bad line of at most 6, each
 // number counted as three digits.
 const MOST_BYTES: usize = 2260;
+
+type Text = ArrayVec<u8, MOST_BYTES>;
 
 // Whether a line of two numbers may have these; `own` is the node of a gate.
 fn pair_fits(due: Due, most: u32, own: u32, first: u32, second: u32) -> bool
@@ -28,9 +32,9 @@ fn pairs_fit(list: &[u32], from: usize, count: u32, due: Due, most: u32, own: u3
     requires nodes { own + count ≤ 249 }
     ensures { result ≡ pairs_fit count due most own (drop from list.now) }
 {
-    for i in 0..count {
-        let k = from + 2 * i as usize;
-        if !pair_fits(due, most, own + i, list[k], list[k + 1]) {
+    let (pairs, _) = list[from..from + 2 * count as usize].as_chunks::<2>();
+    for (i, [first, second]) in pairs.iter().enumerate() {
+        if !pair_fits(due, most, own + i as u32, *first, *second) {
             return false;
         }
     }
@@ -40,12 +44,7 @@ fn pairs_fit(list: &[u32], from: usize, count: u32, due: Due, most: u32, own: u3
 fn all_zero(list: &[u32]) -> bool
     ensures { result ≡ all_zero list.now }
 {
-    for x in list {
-        if *x != 0 {
-            return false;
-        }
-    }
-    true
+    list.iter().all(|x| *x == 0)
 }
 
 // Whether some text gives `list`.
@@ -91,79 +90,63 @@ pub fn is_legal(list: &[u32]) -> bool
     is_well_formed(lists::counted(list))
 }
 
-// Each of these functions writes into `out` from `at` on, and returns where it stopped.
-fn put(out: &mut [u8], at: usize, byte: u8) -> usize
-    requires { at < length out.old }
-    ensures text { take result out.new ≡ take at out.old ++ (byte ∷ []) }
-    ensures stop { result ≡ at + 1 }
+// Each of these functions adds to `out`.
+fn put_number(out: &mut Text, n: u32)
+    requires { array_vec_len out.old + 3 ≤ 2260 }
+    ensures text { out.new.items ≡ out.old.items ++ digits n }
+    ensures few { array_vec_len out.new ≤ array_vec_len out.old + 3 }
 {
-    out[at] = byte;
-    at + 1
-}
-
-fn put_number(out: &mut [u8], at: usize, n: u32) -> usize
-    requires { at + 3 ≤ length out.old }
-    ensures text { take result out.new ≡ take at out.old ++ digits n }
-    ensures stop { result ≤ at + 3 }
-{
-    let ones = b'0' + (n % 10) as u8;
-    let tens = b'0' + (n / 10 % 10) as u8;
-    if n < 10 {
-        return put(out, at, ones);
+    if n >= 100 {
+        out.push(b'0' + (n / 100 % 10) as u8);
     }
-    if n < 100 {
-        let at = put(out, at, tens);
-        return put(out, at, ones);
+    if n >= 10 {
+        out.push(b'0' + (n / 10 % 10) as u8);
     }
-    let at = put(out, at, b'0' + (n / 100 % 10) as u8);
-    let at = put(out, at, tens);
-    put(out, at, ones)
+    out.push(b'0' + (n % 10) as u8);
 }
 
 // A line: its letter, each number after one space, and its end.
-fn put_line(out: &mut [u8], at: usize, letter: u8, numbers: &[u32]) -> usize
-    requires { at + 4 * length numbers.now + 2 ≤ length out.old }
-    ensures text { take result out.new ≡ take at out.old ++ line_text letter numbers.now }
-    ensures stop { result ≤ at + 4 * length numbers.now + 2 }
+fn put_line(out: &mut Text, letter: u8, numbers: &[u32])
+    requires { array_vec_len out.old + 4 * length numbers.now + 2 ≤ 2260 }
+    ensures text { out.new.items ≡ out.old.items ++ line_text letter numbers.now }
+    ensures few { array_vec_len out.new ≤ array_vec_len out.old + 4 * length numbers.now + 2 }
 {
-    let mut to = put(out, at, letter);
+    out.push(letter);
     for n in numbers {
-        to = put(out, to, b' ');
-        to = put_number(out, to, *n);
+        out.push(b' ');
+        put_number(out, *n);
     }
-    put(out, to, b'\n')
+    out.push(b'\n');
 }
 
 // A line for each of `count` pairs, which lie in `list` from `from` on.
-fn put_pairs(out: &mut [u8], at: usize, letter: u8, list: &[u32], from: usize, count: u32) -> usize
-    requires room { at + 10 * count ≤ length out.old }
+fn put_pairs(out: &mut Text, letter: u8, list: &[u32], from: usize, count: u32)
+    requires room { array_vec_len out.old + 10 * count ≤ 2260 }
     requires there { from + 2 * count ≤ length list.now }
-    ensures text { take result out.new ≡ take at out.old ++ pairs_text count letter (drop from list.now) }
-    ensures stop { result ≤ at + 10 * count }
+    ensures text { out.new.items ≡ out.old.items ++ pairs_text count letter (drop from list.now) }
+    ensures few { array_vec_len out.new ≤ array_vec_len out.old + 10 * count }
 {
-    let mut to = at;
-    for i in 0..count {
-        let k = from + 2 * i as usize;
-        to = put_line(out, to, letter, &list[k..k + 2]);
+    let (pairs, _) = list[from..from + 2 * count as usize].as_chunks::<2>();
+    for pair in pairs {
+        put_line(out, letter, pair);
     }
-    to
 }
 
 // The whole text of a list.
-fn put_all(out: &mut [u8], list: &[u32]) -> usize
+fn text_of(list: &[u32]) -> Text
     requires latches { latch_count list.now ≤ 24 }
     requires gates { gate_count list.now ≤ 200 }
     requires whole { size_of list.now ≤ length list.now }
-    requires room { length out.old ≡ 2260 }
-    ensures text { take result out.new ≡ text_of list.now }
-    ensures stop { result ≤ 2260 }
+    ensures { result.items ≡ text_of list.now }
 {
     let latches = list[1];
     let gates = list[2];
-    let at = put_line(out, 0, b'c', &list[0..3]);
-    let at = put_pairs(out, at, b'l', list, 4, latches);
-    let at = put_pairs(out, at, b'g', list, 4 + 2 * latches as usize, gates);
-    put_line(out, at, b'b', &list[3..4])
+    let mut out = Text::new();
+    put_line(&mut out, b'c', &list[0..3]);
+    put_pairs(&mut out, b'l', list, 4, latches);
+    put_pairs(&mut out, b'g', list, 4 + 2 * latches as usize, gates);
+    put_line(&mut out, b'b', &list[3..4]);
+    out
 }
 
 // Writes `bytes` to the front of `text`, and zeros behind them, if there is room.
@@ -191,8 +174,6 @@ pub fn write(list: &[u32], text: &mut [u8]) -> Result<usize, Fault>
     if !is_well_formed(list) {
         return Err(refuse(Cause::NotLegal, 0));
     }
-    let mut bytes = [0; MOST_BYTES];
-    let count = put_all(&mut bytes, list);
     let len = lists::counted_len(text.len());
-    place(&bytes[0..count], &mut text[0..len])
+    place(text_of(list).as_slice(), &mut text[0..len])
 }

@@ -1,4 +1,4 @@
-use Rattle.std.proofs.Common.{◌≡◌, ℕ, List, Err, Result, sym, refl, ap, ◌∙◌, subst}
+use Rattle.std.proofs.Common.{◌≡◌, ℕ, List, Err, Result, sym, ap, ◌∙◌, subst}
 use Rattle.sheet.specs.declared.fault.Fault.{Fault}
 use Rattle.sheet.specs.Sheets.{input_count, latch_count, gate_count}
 use Rattle.sheet.specs.Render.{well_formed, write_text}
@@ -19,17 +19,17 @@ returns-then-not-is_well_formed c =
       wants_room = short_room l old old _ value;
     }
 
-pub put_all-count-requires : goal.put_all-count-requires
-put_all-count-requires c =
+pub text_of-requires : goal.text_of-requires
+text_of-requires c =
     let l = c.counted-list.result.now in
     let f = fits_parts (input_count l) (latch_count l) (gate_count l) l (sym c.if-not-is_well_formed.ensures) in
-    record { latches = f.few_latches; gates = f.few_gates; whole = f.whole; room = refl }
+    record { latches = f.few_latches; gates = f.few_gates; whole = f.whole }
 
 pub returns : goal.returns
 returns c =
     let l = c.args.list.now in
     let old = c.args.text.now in
-    let value = writes_whole l old c.put_all-count.new.out c.put_all-count.result c.counted_len-len.result c.counted-list.result.now c.place.result c.place.new.text c.counted-list.ensures.value c.if-not-is_well_formed.ensures c.put_all-count.ensures.text c.counted_len-len.ensures c.place.ensures in
+    let value = writes_whole l old c.counted_len-len.result c.counted-list.result.now c.as_slice.result.now c.place.result c.place.new.text c.counted-list.ensures.value c.if-not-is_well_formed.ensures (c.as_slice.ensures.value ∙ c.text_of.ensures) c.counted_len-len.ensures c.place.ensures in
     record {
       writes_exactly_the_text = value;
       is_read_back = written_back l old _ _ value;
