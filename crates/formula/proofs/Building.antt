@@ -13,17 +13,17 @@ use Rattle.formula.proofs.Valued.{Fine, conjoin_fine, disjoin_fine}
 pub counted_length : (f : List ℕ) (len : ℕ) → len ≡ min (length f) (2 ^ 28) → length (counted f) ≡ len
 counted_length f len is = omega (arith, is, length-take (2 ^ 28) f)
 
-no_room : (need room node most : ℕ) → (room < need) ⊎ ((need ≤ room) × (most ≤ node)) → (leb need room && ltb node most) ≡ false
+no_room : (need room node most : ℕ) → (room < need) ⊎ (most ≤ node) → (leb need room && ltb node most) ≡ false
 no_room need room node most =
     ⊎_elim
     (λ (h : room < need). and_left (leb need room) (ltb node most) (lt-leb need room h))
-    (λ (h : (need ≤ room) × (most ≤ node)). and_right (leb need room) (ltb node most) (le-ltb node most h.1))
+    (λ (h : most ≤ node). and_right (leb need room) (ltb node most) (le-ltb node most h))
 
 module _ (w n : ℕ) (f : List ℕ) (a b len : ℕ) (is : len ≡ min (length f) (2 ^ 28)) where
   abbrev gate : ℕ → Outcome
   gate room = cond (leb (2 * n + 2) room && ltb (w + n) (2 ^ 31)) (grown (2 * (w + n)) (n + 1) (set (set f (2 * n) a) (2 * n + 1) b)) short
 
-  pub gate_short : (len < 2 * n + 2) ⊎ ((2 * n + 2 ≤ len) × (2 ^ 31 ≤ w + n)) → new_gate w n f a b ≡ short
+  pub gate_short : (len < 2 * n + 2) ⊎ (2 ^ 31 ≤ w + n) → new_gate w n f a b ≡ short
   gate_short why = ap gate (counted_length f len is) ∙ cond-false _ _ _ (no_room (2 * n + 2) len (w + n) (2 ^ 31) why)
 
   pub gate_grown : 2 * n + 2 ≤ len → w + n < 2 ^ 31 → new_gate w n f a b ≡ grown (2 * (w + n)) (n + 1) (set (set f (2 * n) a) (2 * n + 1) b)

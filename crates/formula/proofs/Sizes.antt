@@ -1,9 +1,11 @@
 -- How many gates the start formula has: one for each start bit but the first. Assumes nothing.
-use Rattle.std.proofs.Common.{◌≡◌, ℕ, zero, suc, ◌+◌, ◌-◌, ◌*◌, ◌/◌, ◌^◌, ◌<◌, ◌≤◌, min, max, cond, leb, ◌⊎◌, List, length, set as put, replicate, Some, None, Option, sym, refl, ap, ◌∙◌, inl, inr, ⊎_elim, arith, length-set, length-take}
+use Rattle.std.proofs.Common.{◌≡◌, ℕ, zero, suc, ◌+◌, ◌-◌, ◌*◌, ◌/◌, ◌^◌, ◌<◌, ◌≤◌, min, max, cond, leb, ◌⊎◌, List, length, set as put, replicate, is_some, count_by, Some, None, Option, sym, refl, ap, ◌∙◌, inl, inr, ⊎_elim, arith, length-set, length-take}
 use lib.ListN.{length-replicate}
 use Rattle.std.proofs.lemmas.Bool.{cond-true, cond-false, ne_eqb, le-leb, lt-leb, cases_lt, or_from}
+use Rattle.std.proofs.lemmas.List.Sums.{sum_by-cons}
+use Rattle.std.specs.List.{range_with_len}
 use Rattle.lists.specs.Counted.{counted}
-use Rattle.sheet.specs.Sheets.{Sheet, Start, set, unset}
+use Rattle.sheet.specs.Sheets.{Sheet, Start, set, unset, start_bit}
 use Rattle.sheet.specs.Trip.{Iff}
 use Rattle.formula.specs.Formulas.{width}
 use Rattle.formula.specs.Conjunction.{simple, Outcome, grown, short, new_gate, conjoin_by}
@@ -20,6 +22,17 @@ module _ (s : Sheet) where
   abbrev pub bits : ℕ → ℕ → ℕ
   bits zero i = 0
   bits (suc m) i = bit (s.start i) + bits m (i + 1)
+
+  -- so many have a start bit
+  bit_is : (t : Start) → cond (is_some (start_bit t)) 1 0 ≡ bit t
+  bit_is (set b) = refl
+  bit_is unset = refl
+
+  counted_bits : (m i : ℕ) → count_by (λ k. is_some (start_bit (s.start k))) (range_with_len i m) ≡ bits m i
+  counted_bits zero i = refl
+  counted_bits (suc m) i =
+      sum_by-cons (λ k. cond (is_some (start_bit (s.start k))) 1 0) i (range_with_len (i + 1) m)
+      ∙ (λ j. bit_is (s.start i) j + counted_bits m (i + 1) j)
 
   pub bit_few : (t : Start) → bit t ≤ 1
   bit_few (set b) = omega arith
@@ -174,6 +187,10 @@ module _ (s : Sheet) where
 
     pub start_size_is : start_size s ≡ size
     start_size_is = gates_sized (start_in s (2 * s.latches)) size (enough (2 * s.latches) (omega (arith, bits_few s.latches 0)))
+
+    -- the code counts them so
+    pub size_counted : (k : ℕ) → k ≡ count_by (λ i. is_some (start_bit (s.start i))) (range_with_len 0 s.latches) → (k - 1 ≡ start_size s) × (k ≤ 24)
+    size_counted k is = (omega (arith, is, counted_bits s.latches 0, start_size_is), omega (arith, is, counted_bits s.latches 0, bits_few s.latches 0))
 
     pub start_short : (places : ℕ) → Iff (start_in s places ≡ short) (places < 2 * start_size s)
     start_short places = (

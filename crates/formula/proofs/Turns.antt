@@ -1,5 +1,5 @@
 -- One turn of each loop over the latches. Assumes nothing.
-use Rattle.std.proofs.Common.{◌≡◌, ℕ, suc, ◌+◌, ◌-◌, ◌<◌, ◌≤◌, true, false, List, is_some, Some, None, Option, sym, refl, ap, ◌∙◌, arith}
+use Rattle.std.proofs.Common.{◌≡◌, ℕ, suc, ◌+◌, ◌-◌, ◌<◌, ◌≤◌, List, Some, None, Option, sym, refl, ap, ◌∙◌, arith}
 use Rattle.sheet.specs.declared.literal.Literal.{Literal}
 use Rattle.sheet.specs.Sheets.{Sheet, Start, set, unset, Legal, sheet_of, latch_count}
 use Rattle.formula.specs.declared.builder.Builder.{Builder}
@@ -8,21 +8,12 @@ use Rattle.formula.specs.Conjunction.{Outcome, grown, short, conjoin}
 use Rattle.formula.specs.Starting.{start_literal, start_mark, joined, onward, join_starts}
 use Rattle.formula.specs.Built.{simplified, built}
 use Rattle.formula.proofs.Building.{by_some, by_none}
-use Rattle.formula.proofs.Sizes.{bit, bits}
 
 -- a legal list lays out a small sheet
 pub legal_few : (l : List ℕ) → Legal l → (latch_count l ≤ 24) × (width (sheet_of l) ≤ 249)
 legal_few l h = (h.few_latches, omega (arith, h.few_inputs, h.few_latches, h.few_gates))
 
 module _ (s : Sheet) (i : ℕ) where
-  bit_some : (t : Start) → true ≡ is_some (simplified (start_mark s i t)) → bit s t ≡ 1
-  bit_some (set b) h = refl
-  bit_some unset h = let z : ◌≡◌ {A = ℕ} 0 1 = cc in absurd (omega arith)
-
-  bit_none : (t : Start) → false ≡ is_some (simplified (start_mark s i t)) → bit s t ≡ 0
-  bit_none (set b) h = let z : ◌≡◌ {A = ℕ} 0 1 = cc in absurd (omega arith)
-  bit_none unset h = refl
-
   joined_some : (t : Start) (y : Literal) (x n : ℕ) (f : List ℕ) → Some y ≡ simplified (start_mark s i t) → joined s i t x n f ≡ conjoin (width s) n f x y.0
   joined_some (set b) y x n f h = let e : y.0 ≡ start_literal s i b = cc in ap (conjoin (width s) n f x) (sym e)
   joined_some unset y x n f h = let z : ◌≡◌ {A = ℕ} 0 1 = cc in absurd (omega arith)
@@ -32,17 +23,6 @@ module _ (s : Sheet) (i : ℕ) where
   joined_none unset x n f h = refl
 
   module _ (m : ℕ) (l : i < m) where
-    bits_more : (k : ℕ) → bit s (s.start i) ≡ k → bits s (m - i) i ≡ k + bits s (m - (i + 1)) (i + 1)
-    bits_more k e =
-        let h : m - i ≡ suc (m - (i + 1)) = omega arith in
-        ap (λ (j : ℕ). bits s j i) h ∙ ap (λ (j : ℕ). j + bits s (m - (i + 1)) (i + 1)) e
-
-    pub bits_set : true ≡ is_some (simplified (start_mark s i (s.start i))) → bits s (m - i) i ≡ 1 + bits s (m - (i + 1)) (i + 1)
-    bits_set h = bits_more 1 (bit_some (s.start i) h)
-
-    pub bits_unset : false ≡ is_some (simplified (start_mark s i (s.start i))) → bits s (m - i) i ≡ bits s (m - (i + 1)) (i + 1)
-    bits_unset h = omega (arith, bits_more 0 (bit_none (s.start i) h))
-
     starts_by : (x n : ℕ) (f : List ℕ) (o : Outcome) → joined s i (s.start i) x n f ≡ o → join_starts s (m - i) i x n f ≡ onward o (λ x n f. join_starts s (m - (i + 1)) (i + 1) x n f)
     starts_by x n f o e =
         let h : m - i ≡ suc (m - (i + 1)) = omega arith in

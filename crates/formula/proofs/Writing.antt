@@ -148,21 +148,29 @@ module _ (l old c : List ℕ) (len : ℕ) (is : c ≡ counted l) (formed : true 
   long : length (take (len - 0) old) ≡ len
   long = omega (arith, cut, length-take (len - 0) old)
 
-  pub start_written : ◌≡◌ {A = Found} (r, t ++ post_of 0 (len - 0) old) (write_start l old)
-  start_written =
+  abbrev rest : List ℕ
+  rest = post_of 0 (len - 0) old
+
+  written : ◌≡◌ {A = Found} (r, t ++ rest) (write_start l old)
+  written =
       let front : take (len - 0) old ≡ counted old = take_min old (2 ^ 28) (len - 0) (omega arith) in
-      let rest : drop (len - 0) old ≡ uncounted old = drop_min old (2 ^ 28) (len - 0) (omega arith) in
+      let behind : drop (len - 0) old ≡ uncounted old = drop_min old (2 ^ 28) (len - 0) (omega arith) in
       let here : ◌≡◌ {A = Found} (r, t) (start_over c (take (len - 0) old)) = joined_over c (take (len - 0) old) (sym formed) (omega (arith, enough, long)) r t (subst Told filled told) in
       let done : ◌≡◌ {A = Found} (r, t) (start_over (counted l) (counted old)) = here ∙ (λ i. start_over (is i) (front i)) in
-      (λ i. ((done i).0, (done i).1 ++ rest i))
+      (λ i. ((done i).0, (done i).1 ++ behind i))
 
-  pub start_true : length t ≡ length zeros
-      → IfSome r (λ d. Starts (sheet_of (counted l)) (t ++ post_of 0 (len - 0) old) d.count d.literal.0)
-  start_true same = starts_if c formed len enough (take (len - 0) old) long zeros filled t same (post_of 0 (len - 0) old) (counted l) is r told
-
-  pub start_sized : length t ≡ length zeros → IfSome r (λ d. d.count ≡ size_of_start (counted l))
-  start_sized same = sized_if c formed len enough (take (len - 0) old) long zeros filled t same (post_of 0 (len - 0) old) (counted l) is r told
-
-  pub start_states : length t ≡ length zeros
-      → IfSome r (λ d. TrueAtStarts (sheet_of (counted l)) (t ++ post_of 0 (len - 0) old) d.count d.literal.0)
-  start_states same = states_of (sheet_of (counted l)) (t ++ post_of 0 (len - 0) old) r (start_true same)
+  -- what the call promises of it
+  pub start_done : length t ≡ length zeros
+      → (◌≡◌ {A = Found} (r, t ++ rest) (write_start l old))
+      × IfSome r (λ d. Starts (sheet_of (counted l)) (t ++ rest) d.count d.literal.0)
+      × IfSome r (λ d. TrueAtStarts (sheet_of (counted l)) (t ++ rest) d.count d.literal.0)
+      × IfSome r (λ d. d.count ≡ size_of_start (counted l))
+      × Iff (r ≡ None) ((Legal (counted l) → ⊥) ⊎ (length (counted old) < 2 * size_of_start (counted l)))
+  start_done same =
+      let starts = starts_if c formed len enough (take (len - 0) old) long zeros filled t same rest (counted l) is r told in (
+        written,
+        starts,
+        states_of (sheet_of (counted l)) (t ++ rest) r starts,
+        sized_if c formed len enough (take (len - 0) old) long zeros filled t same rest (counted l) is r told,
+        refused_when l old (t ++ rest) r written,
+      )

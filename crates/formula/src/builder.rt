@@ -5,9 +5,6 @@ ghost use Rattle.formula.specs.Built.{simplified, built, JoinsBy};
 
 use sheet::literal::Literal;
 
-// One more than the last node whose literals have 32 bits.
-const NODES: u64 = 2147483648;
-
 // How many nodes the sheet has, and how many gates the list.
 #[derive(Clone, Copy)]
 pub struct Builder {
@@ -39,14 +36,14 @@ impl Builder {
         ensures { (result, self.new, list.new) ≡ built self.old list.old (new_gate self.old.width self.old.count list.old left right) }
     {
         let at = 2 * self.count as usize;
-        let node = self.width as u64 + self.count as u64;
-        if lists::counted_len(list.len()) < at + 2 || node >= NODES {
+        let number = self.width.checked_add(self.count)?.checked_mul(2)?;
+        if lists::counted_len(list.len()) < at + 2 {
             return None;
         }
         list[at] = left;
         list[at + 1] = right;
         self.count += 1;
-        Some(Literal::from_number(2 * node as u32))
+        Some(Literal::from_number(number))
     }
 
     // The AND of two formulas. None, and nothing changed, if it needs a gate and there is no room for one.
@@ -54,14 +51,11 @@ impl Builder {
         ensures conjoins { (result, self.new, list.new) ≡ built self.old list.old (conjoin self.old.width self.old.count list.old a.0 b.0) }
         ensures is_true_where_both_are { JoinsBy ◌&&◌ self.old list.old a b self.new list.new result }
     {
-        match simplify(a, b) {
-            Some(literal) => Some(literal),
-            None => {
-                let a = a.number();
-                let b = b.number();
-                self.add_gate(list, a.max(b), a.min(b))
-            }
+        if let Some(literal) = simplify(a, b) {
+            return Some(literal);
         }
+        let (a, b) = (a.number(), b.number());
+        self.add_gate(list, a.max(b), a.min(b))
     }
 
     // The OR, as the negated AND of the negations.

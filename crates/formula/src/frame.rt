@@ -14,8 +14,8 @@ pub fn in_frame(x: Literal, frame: u32, width: u32) -> Option<QuestionLiteral>
     ensures is_found_again_in_frame_one { frame ≡ 1 → x.0 / 2 < width → IfSome result (λ y. out_of_frame_one width y.0 ≡ Some x) }
 {
     let offset = frame.checked_mul(width)?.checked_mul(2)?;
-    let number = x.number().checked_add(offset)?;
-    Some(QuestionLiteral::from_number(number))
+    let number = x.number().checked_add(offset);
+    number.map(QuestionLiteral::from_number)
 }
 
 // The literal of a formula's literal in a question of so many frames: the sheet's own nodes stand in frame 0, and the gates
@@ -35,8 +35,8 @@ pub fn out_of_frame_one(x: QuestionLiteral, width: u32) -> Option<Literal>
     ensures is_out_of_frame_one { result ≡ out_of_frame_one width x.0 }
     ensures undoes_frame_one { (y : Literal) → Iff (result ≡ Some y) ((y.0 / 2 < width) × (in_frame width 1 y.0 ≡ x.0)) }
 {
-    let variable = x.variable();
-    if variable < width || variable - width >= width {
+    let node = x.variable().checked_sub(width)?;
+    if node >= width {
         return None;
     }
     Some(Literal::from_number(x.number() - 2 * width))

@@ -1,15 +1,16 @@
 // The start formula of a sheet: true exactly in the start states.
-ghost use Rattle.std.specs.Prelude.{◌≡◌, ℕ, ◌*◌, ◌<◌, ◌⊎◌, length, IfSome, None, MatchOption};
+ghost use Rattle.std.specs.Prelude.{◌≡◌, ℕ, ◌*◌, ◌<◌, ◌⊎◌, length, count_by, is_some, IfSome, None, MatchOption};
+ghost use Rattle.std.specs.List.{range_with_len};
 ghost use Rattle.lists.specs.Counted.{counted};
-ghost use Rattle.sheet.specs.Sheets.{latch_count, sheet_of, Legal};
+ghost use Rattle.sheet.specs.Sheets.{latch_count, sheet_of, start_bit, Legal};
 ghost use Rattle.sheet.specs.Trip.{Iff};
 ghost use Rattle.formula.specs.Conjunction.{grown, short};
 ghost use Rattle.formula.specs.Starting.{start_mark, join_starts, start_in, start_size, Starts, TrueAtStarts};
 ghost use Rattle.formula.specs.Built.{simplified, write_start, size_of_start};
 
 use crate::builder::Builder;
+use sheet::legal::LegalSheet;
 use sheet::literal::Literal;
-use sheet::write::is_legal;
 
 // A literal, and how many gates the list has.
 #[derive(Clone, Copy)]
@@ -19,45 +20,42 @@ pub struct Started {
 }
 
 // The literal that is true where a latch has its start bit, if it starts with one.
-fn start_literal(sheet: &[u32], latch: u32) -> Option<Literal>
-    requires legal { Legal sheet.now }
-    requires there { latch < latch_count sheet.now }
-    ensures { result ≡ simplified (start_mark (sheet_of sheet.now) latch ((sheet_of sheet.now).start latch)) }
+fn start_literal(sheet: LegalSheet<'_>, latch: u32) -> Option<Literal>
+    requires { latch < latch_count sheet.numbers.now }
+    ensures { result ≡ simplified (start_mark (sheet_of sheet.entry.numbers.now) latch ((sheet_of sheet.entry.numbers.now).start latch)) }
 {
-    let literal = Literal::from_number(2 * (1 + sheet[0] + latch));
-    match sheet[5 + 2 * latch as usize] {
-        0 => Some(literal.opposite()),
-        1 => Some(literal),
-        _ => None,
+    let literal = Literal::from_number(2 * (sheet.first_latch() + latch));
+    if sheet.start(latch)? {
+        Some(literal)
+    } else {
+        Some(literal.opposite())
     }
+}
+
+fn count_start_bits(sheet: LegalSheet<'_>) -> usize
+    ensures { result ≡ count_by (λ i. is_some (start_bit ((sheet_of sheet.entry.numbers.now).start i))) (range_with_len 0 (latch_count sheet.entry.numbers.now)) }
+{
+    (0..sheet.latches())
+        .filter(|latch| sheet.start(*latch).is_some())
+        .count()
 }
 
 // A gate for each start bit but the first.
-fn count_gates(sheet: &[u32]) -> u32
-    requires { Legal sheet.now }
-    ensures { result ≡ start_size (sheet_of sheet.now) }
+fn count_gates(sheet: LegalSheet<'_>) -> u32
+    ensures { result ≡ start_size (sheet_of sheet.entry.numbers.now) }
 {
-    let latches = sheet[1];
-    let mut bits: u32 = 0;
-    for latch in 0..latches {
-        if start_literal(sheet, latch).is_some() {
-            bits += 1;
-        }
-    }
-    bits.saturating_sub(1)
+    count_start_bits(sheet).saturating_sub(1) as u32
 }
 
-fn join_starts(sheet: &[u32], list: &mut [u32]) -> Option<Started>
-    requires { Legal sheet.now }
-    ensures { MatchOption result (join_starts (sheet_of sheet.now) (latch_count sheet.now) 0 1 0 list.old ≡ short) (λ d. join_starts (sheet_of sheet.now) (latch_count sheet.now) 0 1 0 list.old ≡ grown d.literal.0 d.count list.new) }
+fn join_starts(sheet: LegalSheet<'_>, list: &mut [u32]) -> Option<Started>
+    ensures { MatchOption result (join_starts (sheet_of sheet.entry.numbers.now) (latch_count sheet.entry.numbers.now) 0 1 0 list.old ≡ short) (λ d. join_starts (sheet_of sheet.entry.numbers.now) (latch_count sheet.entry.numbers.now) 0 1 0 list.old ≡ grown d.literal.0 d.count list.new) }
 {
-    let latches = sheet[1];
     let mut builder = Builder {
-        width: 1 + sheet[0] + latches + sheet[2],
+        width: sheet.width(),
         count: 0,
     };
     let mut literal = Literal::from_number(1);
-    for latch in 0..latches {
+    for latch in 0..sheet.latches() {
         if let Some(start) = start_literal(sheet, latch) {
             literal = builder.and(list, literal, start)?;
         }
@@ -73,11 +71,7 @@ pub fn start_size(sheet: &[u32]) -> u32
     ensures counts_the_gates { result ≡ size_of_start (counted sheet.now) }
     ensures tells_the_room { Legal (counted sheet.now) → (places : ℕ) → Iff (start_in (sheet_of (counted sheet.now)) places ≡ short) (places < 2 * result) }
 {
-    if is_legal(sheet) {
-        count_gates(lists::counted(sheet))
-    } else {
-        0
-    }
+    LegalSheet::new(sheet).map_or(0, count_gates)
 }
 
 // Writes the gates of the start formula into `list`, with zeros behind them. None, and nothing written, for a list that is
@@ -89,10 +83,7 @@ pub fn start_formula(sheet: &[u32], list: &mut [u32]) -> Option<Started>
     ensures has_the_told_size { IfSome result (λ d. d.count ≡ size_of_start (counted sheet.now)) }
     ensures refuses_illegal_or_short { Iff (result ≡ None) ((Legal (counted sheet.now) → ⊥) ⊎ (length (counted list.old) < 2 * size_of_start (counted sheet.now))) }
 {
-    if !is_legal(sheet) {
-        return None;
-    }
-    let sheet = lists::counted(sheet);
+    let sheet = LegalSheet::new(sheet)?;
     let len = lists::counted_len(list.len());
     if len < 2 * count_gates(sheet) as usize {
         return None;

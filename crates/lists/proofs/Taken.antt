@@ -19,9 +19,6 @@ drop_min xs n m is =
     (λ (short : length xs ≤ n). drop_all m xs (omega arith) ∙ sym (drop_all n xs short))
     (cases_lt n (length xs))
 
-pub length_take_few : {X : Type 0} (n : ℕ) (xs : List X) → length (take n xs) ≤ n
-length_take_few n xs = omega (arith, length-take n xs)
-
 -- ---- xs with ys, which is as long, in place of its front
 -- its front is ys
 pub take_refronted : {X : Type 0} (ys xs : List X) (n : ℕ) → length ys ≡ length (take n xs) → take n (ys ++ drop n xs) ≡ ys

@@ -4,7 +4,7 @@ use Rattle.std.proofs.Common.{◌≡◌, ℕ, zero, suc, ◌+◌, ◌-◌, ◌/�
 use Rattle.std.proofs.lemmas.List.FromFn.{length-map-range_with_len, get_or-map-range_with_len}
 use Rattle.std.proofs.lemmas.List.{get_or_append_left, get_or-append_right, length-append, length-replicate}
 use Rattle.std.proofs.lemmas.Bool.{cases_lt}
-use Rattle.sheet.specs.Sheets.{Legal, sheet_of, input_count, latch_count, gate_count, bad_of, next_of, literal_limit, gate_node, node_count}
+use Rattle.sheet.specs.Sheets.{Legal, sheet_of, input_count, latch_count, gate_count, bad_of, next_of, literal_limit, gate_node, node_count, gate_pairs}
 use Rattle.signal.specs.Circuit.{Ops, node_of}
 use Rattle.signal.specs.Covers.{CoversTo}
 use Rattle.signal.specs.Sets.{nots}
@@ -13,7 +13,7 @@ use Rattle.signal.specs.Truth.{lit}
 use Rattle.signal.proofs.Cover.{covers_gated}
 use Rattle.signal.proofs.Fixed.{length_gates}
 use Rattle.machine.specs.Fits.{Settled}
-use Rattle.machine.specs.Simulate.{operands, fed_signals, node_signals, step_signals, MayBe, CoversStep}
+use Rattle.machine.specs.Simulate.{fed_signals, node_signals, step_signals, MayBe, CoversStep}
 use Rattle.machine.specs.Values.{values}
 use Rattle.machine.proofs.Operands.{operands_length, operands_ordered, values_gated}
 use Rattle.machine.proofs.Values.{legal_ascends, settled}
@@ -35,7 +35,7 @@ module _ {S : Type 0} {o : Ops S} (may : S → ℕ → Bool → Bool) (i : ℕ) 
   module _ (l : List ℕ) (legal : Legal l) (inputs state : List S) (many : length inputs ≡ input_count l) (wide : length state ≡ latch_count l) where
     pub nodes_length : length (node_signals o l inputs state) ≡ node_count l
     nodes_length =
-        length_gates o (operands l) (gate_node l 0) (fed_signals o l inputs state)
+        length_gates o (gate_pairs l) (gate_node l 0) (fed_signals o l inputs state)
         ∙ simp (length-append, length-replicate) (omega arith)
 
     module _ (c x : ℕ → Bool) (at-latches : MayBe may i state c) (at_inputs : MayBe may i inputs x) where
@@ -73,7 +73,7 @@ module _ {S : Type 0} {o : Ops S} (may : S → ℕ → Bool → Bool) (i : ℕ) 
 
       pub nodes_cover : MayBe may i (node_signals o l inputs state) v
       nodes_cover k d within =
-          covers_gated may i sound v (operands l) (gate_node l 0) (fed_signals o l inputs state)
+          covers_gated may i sound v (gate_pairs l) (gate_node l 0) (fed_signals o l inputs state)
           (operands_ordered l legal) (values_gated l legal c x) fed_covers
           k d (omega (arith, operands_length l legal, nodes_length)) within
 

@@ -4,9 +4,9 @@ use borrow.Rule.Slice.PartMut.{put_mid}
 use Rattle.std.proofs.lemmas.List.{append_assoc, append-nil, drop-drop, take_all, drop_all, take-replicate, drop-replicate, length-append, length-replicate}
 use Rattle.std.proofs.lemmas.Slice.{take-put_mid, drop-put_mid}
 use Rattle.lists.specs.Counted.{counted, uncounted}
-use Rattle.sheet.specs.Sheets.{Legal, input_count, latch_count, gate_count, gate_node}
+use Rattle.sheet.specs.Sheets.{Legal, input_count, latch_count, gate_count, gate_node, gate_pairs}
 use Rattle.signal.specs.Circuit.{Ops, gates_of}
-use Rattle.machine.specs.Simulate.{operands, fed_signals, node_signals}
+use Rattle.machine.specs.Simulate.{fed_signals, node_signals}
 use Rattle.machine.proofs.Operands.{operands_length}
 
 -- one list written behind the first place, and another behind it
@@ -47,7 +47,7 @@ fed_by {S} o l inputs state nodes n size few blank =
 -- running the gates on them
 pub run_by : {S : Type 0} (o : Ops S) (l pairs : List ℕ) (inputs state nodes after : List S) (first : ℕ)
     → Legal l → length inputs ≡ input_count l → length state ≡ latch_count l → first ≡ gate_node l 0
-    → pairs ≡ operands l → nodes ≡ fed_signals o l inputs state
+    → pairs ≡ gate_pairs l → nodes ≡ fed_signals o l inputs state
     → after ≡ gates_of o (counted pairs) first (counted nodes) ++ uncounted nodes → after ≡ node_signals o l inputs state
 run_by o l pairs inputs state nodes after first legal many wide at ps fed runs =
     let few : length nodes ≤ 2 ^ 28 = rw fed (simp (length-append, length-replicate) (omega (arith, legal.few_inputs, legal.few_latches, legal.few_gates))) in

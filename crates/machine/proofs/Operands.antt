@@ -1,10 +1,9 @@
 -- The gates of a list, as pairs of literals: each reads lower nodes alone, and the values of a sheet fit them. Assumes nothing.
 use Rattle.std.proofs.Common.{◌≡◌, ℕ, suc, ◌+◌, ◌*◌, ◌/◌, ◌<◌, Bool, ◌&&◌, List, [], ◌∷◌, length, get_or, drop, sym, ap, ◌∙◌, subst, arith}
 use Rattle.std.proofs.lemmas.List.{get_or-take, get_or-drop, length-take, length-drop}
-use Rattle.sheet.specs.Sheets.{Legal, sheet_of, gate_count, left_of, right_of, left_place, right_place, gate_node}
+use Rattle.sheet.specs.Sheets.{Legal, sheet_of, gate_count, left_of, right_of, left_place, right_place, gate_node, gate_pairs}
 use Rattle.signal.specs.Settled.{Ordered, Gated}
 use Rattle.signal.specs.Truth.{lit}
-use Rattle.machine.specs.Simulate.{operands}
 use Rattle.machine.specs.Values.{values}
 use Rattle.machine.proofs.Values.{legal_ascends, settled}
 
@@ -48,12 +47,12 @@ gated_all α (l ∷ r ∷ ps) node h =
     (first_pair P l r ps node (h 0 (omega arith)), gated_all α ps (node + 1) (λ g lt. next_pair P l r ps node g (h (g + 1) (omega arith))))
 
 -- ---- the operands of a list
-left_at : (l : List ℕ) (g : ℕ) → g < gate_count l → get_or (operands l) (2 * g) 0 ≡ left_of l g
+left_at : (l : List ℕ) (g : ℕ) → g < gate_count l → get_or (gate_pairs l) (2 * g) 0 ≡ left_of l g
 left_at l g h =
     let place : left_place l 0 + 2 * g ≡ left_place l g = omega arith in
     get_or-take (2 * gate_count l) (drop (left_place l 0) l) (2 * g) 0 (omega arith) ∙ get_or-drop (left_place l 0) l (2 * g) 0 ∙ ap (λ k. get_or l k 0) place
 
-right_at : (l : List ℕ) (g : ℕ) → g < gate_count l → get_or (operands l) (2 * g + 1) 0 ≡ right_of l g
+right_at : (l : List ℕ) (g : ℕ) → g < gate_count l → get_or (gate_pairs l) (2 * g + 1) 0 ≡ right_of l g
 right_at l g h =
     let place : left_place l 0 + (2 * g + 1) ≡ right_place l g = omega arith in
     get_or-take (2 * gate_count l) (drop (left_place l 0) l) (2 * g + 1) 0 (omega arith)
@@ -61,25 +60,25 @@ right_at l g h =
     ∙ ap (λ k. get_or l k 0) place
 
 module _ (l : List ℕ) (legal : Legal l) where
-  pub operands_length : length (operands l) ≡ 2 * gate_count l
+  pub operands_length : length (gate_pairs l) ≡ 2 * gate_count l
   operands_length = simp (length-take, length-drop) (omega (arith, legal.whole))
 
-  inside : (g : ℕ) → 2 * g + 1 < length (operands l) → g < gate_count l
+  inside : (g : ℕ) → 2 * g + 1 < length (gate_pairs l) → g < gate_count l
   inside g h = omega (arith, operands_length)
 
-  pub operands_ordered : Ordered (operands l) (gate_node l 0)
+  pub operands_ordered : Ordered (gate_pairs l) (gate_node l 0)
   operands_ordered =
-      ordered_all (operands l) (gate_node l 0) (λ g h.
+      ordered_all (gate_pairs l) (gate_node l 0) (λ g h.
       let k : g < gate_count l = inside g h in
       let a : left_of l g / 2 < gate_node l g = legal.lefts g k in
       let b : right_of l g / 2 < left_of l g / 2 = legal.rights g k in
       (rw (left_at l g k) (omega arith), rw (right_at l g k) (omega arith)))
 
-  pub values_gated : (c x : ℕ → Bool) → Gated (values (sheet_of l) c x) (operands l) (gate_node l 0)
+  pub values_gated : (c x : ℕ → Bool) → Gated (values (sheet_of l) c x) (gate_pairs l) (gate_node l 0)
   values_gated c x =
       let v = values (sheet_of l) c x in
-      gated_all v (operands l) (gate_node l 0) (λ g h.
+      gated_all v (gate_pairs l) (gate_node l 0) (λ g h.
       let k : g < gate_count l = inside g h in
       let at : gate_node l 0 + g ≡ gate_node l g = omega arith in
       ap v at ∙ (settled (sheet_of l) c x (legal_ascends l legal)).gates g k
-      ∙ sym (ap (λ y. lit v y && lit v (get_or (operands l) (2 * g + 1) 0)) (left_at l g k) ∙ ap (λ y. lit v (left_of l g) && lit v y) (right_at l g k)))
+      ∙ sym (ap (λ y. lit v y && lit v (get_or (gate_pairs l) (2 * g + 1) 0)) (left_at l g k) ∙ ap (λ y. lit v (left_of l g) && lit v y) (right_at l g k)))

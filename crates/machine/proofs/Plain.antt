@@ -84,20 +84,20 @@ module _ (l : List ℕ) (inputs state : List Bool) where
   abbrev answer : Result Bool Fault × List Bool
   answer = on_counted (simulated bit_ops l (counted inputs)) state
 
-  at_sizes : Legal l → length state ≡ latch_count l → length inputs ≡ input_count l → Made answer
-  at_sizes legal wide many =
-      subst Made (stepped_by bit_ops l inputs state legal wide many) (bits_step l legal inputs state many wide)
+  module _ (formed : well_formed l ≡ true) where
+    at_sizes : length state ≡ latch_count l → length inputs ≡ input_count l → Made answer
+    at_sizes wide many =
+        subst Made (stepped_by bit_ops l inputs state formed wide many) (bits_step l (well_formed_legal l formed) inputs state many wide)
 
-  at_state : Legal l → length state ≡ latch_count l → Made answer
-  at_state legal wide =
-      ⊎_elim (at_sizes legal wide) (λ fails. subst Made (not_inputs bit_ops l inputs state legal wide fails) tt)
-      (cases_eq (length inputs) (input_count l))
+    at_state : length state ≡ latch_count l → Made answer
+    at_state wide =
+        ⊎_elim (at_sizes wide) (λ fails. subst Made (not_inputs bit_ops l inputs state formed wide fails) tt)
+        (cases_eq (length inputs) (input_count l))
 
-  at_legal : well_formed l ≡ true → Made answer
-  at_legal formed =
-      let legal = well_formed_legal l formed in
-      ⊎_elim (at_state legal) (λ fails. subst Made (not_a_state bit_ops l inputs state legal fails) tt)
-      (cases_eq (length state) (latch_count l))
+    at_legal : Made answer
+    at_legal =
+        ⊎_elim at_state (λ fails. subst Made (not_a_state bit_ops l inputs state formed fails) tt)
+        (cases_eq (length state) (latch_count l))
 
   pub lent_step : (r : Result Bool Fault) (next : List Bool) → (r, next) ≡ answer → Made (r, next)
   lent_step r next is =

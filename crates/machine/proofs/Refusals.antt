@@ -7,7 +7,7 @@ use Rattle.sheet.specs.Render.{well_formed}
 use Rattle.sheet.specs.Sheets.{Legal, sheet_of, input_count, latch_count}
 use Rattle.sheet.specs.declared.fault.Cause.TheVariants.{NotLegal, WrongCount}
 use Rattle.sheet.specs.declared.fault.Fault.{Fault}
-use Rattle.sheet.proofs.Legality.{legal_well_formed}
+use Rattle.sheet.proofs.Legality.{well_formed_legal}
 use Rattle.signal.specs.Circuit.{Ops}
 use Rattle.signal.specs.Sound.{Sound}
 use Rattle.machine.specs.Faults.{refusal}
@@ -34,15 +34,18 @@ module _ {S : Type 0} (o : Ops S) (l : List ℕ) (inputs state : List S) where
   pub not_legal : well_formed l ≡ false → (Err (refusal NotLegal 0), state) ≡ answer
   not_legal fails = kept (refusal NotLegal 0) (cond-false _ _ _ fails)
 
-  module _ (legal : Legal l) where
+  module _ (formed : well_formed l ≡ true) where
+    legal : Legal l
+    legal = well_formed_legal l formed
+
     pub not_a_state : (length state ≡ latch_count l → ⊥) → (Err (refusal WrongCount 0), state) ≡ answer
     not_a_state fails =
-        kept (refusal WrongCount 0) (cond-true _ _ _ (legal_well_formed l legal) ∙ cond-false _ _ _ (missized state (latch_count l) legal.few_latches fails))
+        kept (refusal WrongCount 0) (cond-true _ _ _ formed ∙ cond-false _ _ _ (missized state (latch_count l) legal.few_latches fails))
 
     pub not_inputs : length state ≡ latch_count l → (length inputs ≡ input_count l → ⊥) → (Err (refusal WrongCount 1), state) ≡ answer
     not_inputs is fails =
         kept (refusal WrongCount 1)
-        (cond-true _ _ _ (legal_well_formed l legal) ∙ cond-true _ _ _ (sized state (latch_count l) legal.few_latches is)
+        (cond-true _ _ _ formed ∙ cond-true _ _ _ (sized state (latch_count l) legal.few_latches is)
         ∙ cond-false _ _ _ (missized inputs (input_count l) legal.few_inputs fails))
 
     pub stepped_by : length state ≡ latch_count l → length inputs ≡ input_count l
@@ -51,7 +54,7 @@ module _ {S : Type 0} (o : Ops S) (l : List ℕ) (inputs state : List S) where
         let s = whole state (omega (arith, legal.few_latches)) in
         let x = whole inputs (omega (arith, legal.few_inputs)) in
         let step : simulated o l (counted inputs) (counted state) ≡ (Ok (step_signals o l (counted inputs) (counted state)).0, (step_signals o l (counted inputs) (counted state)).1) =
-        cond-true _ _ _ (legal_well_formed l legal) ∙ cond-true _ _ _ (sized state (latch_count l) legal.few_latches is)
+        cond-true _ _ _ formed ∙ cond-true _ _ _ (sized state (latch_count l) legal.few_latches is)
         ∙ cond-true _ _ _ (sized inputs (input_count l) legal.few_inputs are) in
         sym (ap (λ p. (p.0, p.1 ++ uncounted state)) step ∙ rw (s.0, x.0, s.1, append-nil (step_signals o l inputs state).1))
 

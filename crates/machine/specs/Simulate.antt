@@ -1,8 +1,8 @@
 -- One step of the machine that a list lays out, at any kind of signal. Assumes nothing.
-use Rattle.std.specs.Prelude.{◌≡◌, ℕ, ◌*◌, ◌<◌, Bool, true, false, cond, List, ◌∷◌, ◌++◌, map, length, take, drop, replicate, Ok, Err, Result, ◌==◌, slice_index_or}
+use Rattle.std.specs.Prelude.{◌≡◌, ℕ, ◌<◌, Bool, true, false, cond, List, ◌∷◌, ◌++◌, map, length, replicate, Ok, Err, Result, ◌==◌, slice_index_or}
 use Rattle.std.specs.List.{range_with_len}
 use Rattle.sheet.specs.Render.{well_formed}
-use Rattle.sheet.specs.Sheets.{Sheet, input_count, latch_count, gate_count, bad_of, next_of, left_place, gate_node}
+use Rattle.sheet.specs.Sheets.{Sheet, input_count, latch_count, gate_count, bad_of, next_of, gate_node, gate_pairs}
 use Rattle.sheet.specs.declared.fault.Cause.TheVariants.{NotLegal, WrongCount}
 use Rattle.sheet.specs.declared.fault.Fault.{Fault}
 use Rattle.signal.specs.Circuit.{Ops, node_of, gates_of}
@@ -11,10 +11,6 @@ use Rattle.machine.specs.Faults.{refusal}
 use Rattle.machine.specs.Runs.{State, Frame, Follows, value_in}
 use Rattle.machine.specs.Values.{values}
 
--- the operands of the gates, in pairs
-abbrev pub operands : List ℕ → List ℕ
-operands l = take (2 * gate_count l) (drop (left_place l 0) l)
-
 module _ {S : Type 0} (o : Ops S) where
   -- the signals of the nodes before the gates: the constant, the inputs, the latches, and a place for each gate
   abbrev pub fed_signals : List ℕ → List S → List S → List S
@@ -22,7 +18,7 @@ module _ {S : Type 0} (o : Ops S) where
 
   -- and after them
   abbrev pub node_signals : List ℕ → List S → List S → List S
-  node_signals l inputs state = gates_of o (operands l) (gate_node l 0) (fed_signals l inputs state)
+  node_signals l inputs state = gates_of o (gate_pairs l) (gate_node l 0) (fed_signals l inputs state)
 
   -- the signals that the latches have next
   abbrev pub next_signals : List ℕ → List S → List S

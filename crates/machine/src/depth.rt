@@ -8,9 +8,8 @@ ghost use Rattle.machine.specs.Depth.{ReverseDepth, HasReverseDepth, BadRuns};
 ghost use Rattle.machine.specs.Faults.{refusal};
 
 use crate::refuse;
-use lists::counted;
 use sheet::fault::{Cause, Fault};
-use sheet::write::is_legal;
+use sheet::legal::LegalSheet;
 
 // How many states the machine has, which its reverse depth never exceeds. It has exactly one reverse depth.
 pub fn depth_limit(sheet: &[u32]) -> Result<u32, Fault>
@@ -19,8 +18,8 @@ pub fn depth_limit(sheet: &[u32]) -> Result<u32, Fault>
     ensures bad_runs_need_no_more_steps { (s : Sheet) → BadRuns s }
     ensures limits_the_reverse_depth { IfOk result (λ most. (depth : ℕ) → ReverseDepth (sheet_of (counted sheet.now)) depth → depth ≤ most) }
 {
-    if !is_legal(sheet) {
+    let Some(sheet) = LegalSheet::new(sheet) else {
         return Err(refuse(Cause::NotLegal, 0));
-    }
-    Ok(1 << counted(sheet)[1])
+    };
+    Ok(1 << sheet.latches())
 }

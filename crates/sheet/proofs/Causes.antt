@@ -1,8 +1,8 @@
 -- The numbers of causes are small. Assumes nothing.
 use Rattle.std.specs.Prelude.{◌<◌, ◌^◌}
-use Rattle.std.proofs.Common.{arith}
 use Rattle.sheet.specs.declared.fault.Cause.{Cause}
 use Rattle.sheet.specs.declared.fault.Cause.TheVariants.{TextTooLong, LineNotEnded, WrongLetter, NotNumbers, OutOfRange, OutOfOrder, TextGoesOn, ListTooShort, NotLegal, StepLimit, TurnLimit, StartFormulaTooLong, StartQuestionTooLong, WrongCount, NotABit, FalseClause, NotWhole, LaterLine, PivotNotOpposed, Clash, WorkTooShort, NotEmpty, RunTooShort, NoAnswer}
+use Rattle.std.proofs.Common.{arith}
 use Rattle.sheet.specs.Faults.{cause_number}
 
 pub number_small : (c : Cause) → cause_number c < 2 ^ 32

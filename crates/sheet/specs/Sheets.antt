@@ -1,6 +1,7 @@
 -- A sheet, and the list of numbers that lays it out: how many inputs, latches and gates, the bad literal, then next and
 -- start of each latch, then left and right of each gate. Assumes nothing.
-use Rattle.std.specs.Prelude.{◌≡◌, ℕ, ◌+◌, ◌*◌, ◌/◌, ◌<◌, ◌≤◌, Bool, true, false, cond, List, length, ◌==◌, slice_index}
+use Rattle.std.specs.Prelude.{◌≡◌, ℕ, ◌+◌, ◌*◌, ◌/◌, ◌<◌, ◌≤◌, Bool, true, false, cond, List, length, take, drop, Some, None, Option, ◌==◌, slice_index}
+use Rattle.std.specs.Coded.{Π_prop, →_prop, le_prop, Coded-set, coded_ℕ}
 
 -- what the list says, by the places of its numbers
 abbrev pub input_count : List ℕ → ℕ
@@ -39,6 +40,10 @@ left_of l g = slice_index l (left_place l g)
 abbrev pub right_of : List ℕ → ℕ → ℕ
 right_of l g = slice_index l (right_place l g)
 
+-- the operands of every gate, in pairs
+abbrev pub gate_pairs : List ℕ → List ℕ
+gate_pairs l = take (2 * gate_count l) (drop (left_place l 0) l)
+
 -- how many numbers lay the sheet out
 abbrev pub size_of : List ℕ → ℕ
 size_of l = 4 + 2 * (latch_count l + gate_count l)
@@ -75,6 +80,23 @@ pub record Legal (l : List ℕ) : Type 0 where
   pub rights : (g : ℕ) → g < gate_count l → right_of l g / 2 < left_of l g / 2
   pub zeros_behind : (k : ℕ) → size_of l ≤ k → slice_index l k ≡ 0
 
+-- a list is legal in one way at most
+pub Legal-prop : (l : List ℕ) → IsProp (Legal l)
+Legal-prop l a b =
+    λ i. record {
+      few_inputs = le_prop a.few_inputs b.few_inputs i;
+      some_latch = le_prop a.some_latch b.some_latch i;
+      few_latches = le_prop a.few_latches b.few_latches i;
+      few_gates = le_prop a.few_gates b.few_gates i;
+      whole = le_prop a.whole b.whole i;
+      bad_literal = le_prop a.bad_literal b.bad_literal i;
+      next_literals = Π_prop (λ _. →_prop le_prop) a.next_literals b.next_literals i;
+      starts = Π_prop (λ _. →_prop le_prop) a.starts b.starts i;
+      lefts = Π_prop (λ _. →_prop le_prop) a.lefts b.lefts i;
+      rights = Π_prop (λ _. →_prop le_prop) a.rights b.rights i;
+      zeros_behind = Π_prop (λ k. →_prop (Coded-set coded_ℕ (slice_index l k) 0)) a.zeros_behind b.zeros_behind i;
+    }
+
 -- how a latch starts: with a bit, or with either
 pub data Start : Type 0 where
   set : Bool → Start
@@ -82,6 +104,10 @@ pub data Start : Type 0 where
 
 abbrev pub start_by : ℕ → Start
 start_by n = cond (n == 0) (set false) (cond (n == 1) (set true) unset)
+
+abbrev pub start_bit : Start → Option Bool
+start_bit (set b) = Some b
+start_bit unset = None
 
 -- A sheet. Literals are numbers: twice a node, plus 1 if negated. Only latches and gates below their counts mean anything.
 pub record Sheet : Type 0 where

@@ -3,6 +3,7 @@
 #![tactic(auto)]
 
 pub mod fault;
+pub mod legal;
 mod line;
 pub mod literal;
 pub mod read;

@@ -14,7 +14,7 @@ ghost use Rattle.signal.specs.Settled.{Ordered, Settled, Gated};
 ghost use Rattle.signal.specs.Sound.{Sound};
 ghost use Rattle.signal.specs.Truth.{lit, holds};
 
-use lists::{counted, counted_len};
+use lists::{counted, counted_len, item_or};
 
 pub mod clauses;
 pub mod kinds;
@@ -55,17 +55,6 @@ pub trait Signal: Copy {
 
     // So that an array of a few hundred values finds room in memory.
     ghost small: { Small Self.row };
-}
-
-// What stands at a place of a list, or `other` if the place is not there.
-fn item_or<T: Copy>(list: &[T], place: usize, other: T) -> T
-    ensures { result ≡ slice_index_or list.now place other }
-{
-    if place < list.len() {
-        list[place]
-    } else {
-        other
-    }
 }
 
 // The value x of a variable, as a literal of it sees it.

@@ -1,10 +1,5 @@
-use Rattle.std.proofs.Common.{◌≡◌, ◌-◌, ◌^◌, take, arith}
-use Rattle.lists.proofs.Taken.{take_min, length_take_few}
+use Rattle.std.proofs.Common.{arith, ap, length, length-take}
 use Rattle.lists.proofs.counted.Goals as goal
 
-pub returns : goal.returns
-returns g c =
-    let xs = c.args.list.now in
-    let cut : take (c.counted_len.result - 0) xs ≡ take (2 ^ 28) xs =
-    take_min xs (2 ^ 28) (c.counted_len.result - 0) (omega (arith, c.counted_len.ensures)) in
-    record { value = cut; few = rw cut (length_take_few (2 ^ 28) xs) }
+pub returns-clause-few : goal.returns-clause-few
+returns-clause-few g c = omega (arith, ap length c.front.ensures, length-take {A = g.row.T.Denot})

@@ -2,17 +2,15 @@ use Rattle.std.proofs.Common.{◌≡◌, ℕ, ◌*◌, ◌%◌, ◌^◌, ◌<◌
 use lib.Pow.{pow-lt}
 use Rattle.std.proofs.lemmas.Bool.{cond-false, cond-true}
 use Rattle.lists.specs.Counted.{counted}
-use Rattle.sheet.specs.Sheets.{Legal, sheet_of, latch_count}
-use Rattle.sheet.proofs.Legality.{legal_well_formed}
+use Rattle.sheet.specs.Sheets.{sheet_of, latch_count}
 use Rattle.machine.proofs.Depths.{has_reverse_depth, depth_low}
 use Rattle.machine.proofs.Reaching.{bad_runs}
 use Rattle.machine.proofs.depth.depth_limit.Goals as goal
 
-pub returns-then-not-is_legal : goal.returns-then-not-is_legal
-returns-then-not-is_legal c =
+pub returns-in_default : goal.returns-in_default
+returns-in_default c =
     record {
-      is_the_number_of_states =
-          rw c.refuse.ensures (sym (cond-false _ _ _ (sym c.is_legal.ensures.is_the_test ∙ c.if-not-is_legal.true)));
+      is_the_number_of_states = rw c.refuse.ensures (sym (cond-false _ _ _ (sym c.in_default.ensures.is_the_test)));
       each_sheet_has_exactly_one_depth = has_reverse_depth;
       bad_runs_need_no_more_steps = bad_runs;
       limits_the_reverse_depth = tt;
@@ -27,11 +25,12 @@ shifted n few =
 pub returns : goal.returns
 returns c =
     let l : List ℕ = counted c.args.sheet.now in
-    let legal : Legal l = c.is_legal.ensures.decides_legal.0 c.if-not-is_legal.false in
-    let power : 1 * 2 ^ latch_count c.counted.result.now % 2 ^ 32 ≡ 2 ^ latch_count l =
-    ap (λ k. 1 * 2 ^ latch_count k % 2 ^ 32) c.counted.ensures.value ∙ shifted (latch_count l) legal.few_latches in
+    let sheet = c.in-Some.sheet in
+    let latches : c.latches.result ≡ latch_count l = c.latches.ensures ∙ ap latch_count c.in-Some.ensures.only_of_legal_lists in
+    let power : 1 * 2 ^ c.latches.result % 2 ^ 32 ≡ 2 ^ latch_count l =
+    shifted c.latches.result (omega (arith, c.latches.ensures, sheet.legal.few_latches)) ∙ ap (λ n. 2 ^ n) latches in
     record {
-      is_the_number_of_states = ap (λ n. Ok n) power ∙ sym (cond-true _ _ _ (legal_well_formed l legal));
+      is_the_number_of_states = ap (λ n. Ok n) power ∙ sym (cond-true _ _ _ (sym c.in-Some.ensures.is_the_test));
       each_sheet_has_exactly_one_depth = has_reverse_depth;
       bad_runs_need_no_more_steps = bad_runs;
       limits_the_reverse_depth = λ depth is. rw power (depth_low (sheet_of l) depth is);

@@ -6,4 +6,4 @@ use Rattle.machine.proofs.simulate.set_latches.Given as goal
 abbrev pub invariant-loop-i : goal.invariant-loop-i
 invariant-loop-i g l =
     let o = g.S.Signal.ops in
-    (k : ℕ) → k < l.i → get_or l.state k (o.known false) ≡ node_of o l.nodes (next_of l.sheet k)
+    (k : ℕ) → k < l.i → get_or l.state k (o.known false) ≡ node_of o l.nodes (next_of l.sheet.numbers.now k)
