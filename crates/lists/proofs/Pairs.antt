@@ -26,3 +26,11 @@ pair_in xs cs k n m i d size room is h =
     ap (λ (c : List (List ℕ)). get_or c i d) (is ∙ ap (λ (p : ℕ). first_chunks 2 p (take m (drop k xs))) half)
     ∙ chunk_pair (take m (drop k xs)) n i d h (omega arith)
     ∙ (λ j. first j ∷ (second ∙ ap (λ (p : ℕ). get_or xs p 0) behind) j ∷ [])
+
+-- the first m pairs of a list
+pub pair_front : (xs : List ℕ) (cs ds : List (List ℕ)) (m i : ℕ) (d : List ℕ) → cs ≡ first_chunks 2 (length xs / 2) xs → ds ≡ take m cs → i < m → i < length xs / 2 → get_or ds i d ≡ get_or xs (2 * i) 0 ∷ get_or xs (2 * i + 1) 0 ∷ []
+pair_front xs cs ds m i d is front h k =
+    ap (λ (c : List (List ℕ)). get_or c i d) front
+    ∙ get_or-take m cs i d h
+    ∙ ap (λ (c : List (List ℕ)). get_or c i d) is
+    ∙ chunk_pair xs (length xs / 2) i d k (omega arith)

@@ -14,7 +14,7 @@ ghost use Rattle.signal.specs.Settled.{Ordered, Settled, Gated};
 ghost use Rattle.signal.specs.Sound.{Sound};
 ghost use Rattle.signal.specs.Truth.{lit, holds};
 
-use lists::{counted, counted_len, item_or};
+use lists::{counted, counted_len, front, item_or};
 
 pub mod clauses;
 pub mod kinds;
@@ -97,11 +97,10 @@ fn node_of<S: Signal>(values: &[S], literal: u32) -> S
 fn run_gates<S: Signal>(pairs: &[u32], first: usize, values: &mut [S])
     ensures { values.new ≡ gates_of S.ops pairs.now first values.old }
 {
-    let count = (pairs.len() / 2).min(values.len().saturating_sub(first));
-    for i in 0..count {
-        let left = node_of(values, pairs[2 * i]);
-        let right = node_of(values, pairs[2 * i + 1]);
-        values[first + i] = left.and(right);
+    let (gates, _) = pairs.as_chunks::<2>();
+    let room = values.len().saturating_sub(first);
+    for (i, [left, right]) in front(gates, room).iter().enumerate() {
+        values[first + i] = node_of(values, *left).and(node_of(values, *right));
     }
 }
 
