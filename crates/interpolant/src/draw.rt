@@ -6,7 +6,7 @@ ghost use Rattle.interpolant.specs.Interpolation.{line_count};
 ghost use Rattle.interpolant.specs.Meaning.{DrawsFormula, Annotates, Interpolates, InterpolatesPath, LiesBetween};
 ghost use Rattle.interpolant.specs.Parting.{cut_by};
 
-use crate::lines::draw_lines;
+use crate::lines::Drawing;
 use crate::parts::Parts;
 use lists::{counted, counted_len};
 use question::read::{clause_count, number_at};
@@ -34,47 +34,32 @@ pub fn clear(list: &mut [u32])
     list[0..len].fill(0);
 }
 
-// The drawing where every place of the question, the refutation and the line values counts.
+// The drawing where every place of the line values counts.
 fn draw(
-    parts: Parts,
-    question: &[u32],
-    refutation: &[u32],
+    drawing: &Drawing<'_>,
     formula: &mut [u32],
     gates: u32,
     values: &mut [u32],
 ) -> Result<Drawn, Short>
-    requires few_clauses { length question.now ≤ 2 ^ 28 }
-    requires few_steps { length refutation.now ≤ 2 ^ 28 }
-    requires few_lines { length values.old ≤ 2 ^ 28 }
-    ensures { (result, formula.new, values.new) ≡ draw_all parts.width (cut_by parts) question.now refutation.now gates formula.old values.old }
+    requires { length values.old ≤ 2 ^ 28 }
+    ensures { (result, formula.new, values.new) ≡ draw_all drawing.now.parts.width (cut_by drawing.now.parts) drawing.now.question.now drawing.now.refutation.now gates formula.old values.old }
 {
-    let lines = clause_count(question) as usize + number_at(refutation, 0) as usize;
+    let clauses = clause_count(drawing.question) as usize;
+    let lines = clauses + number_at(drawing.refutation, 0) as usize;
     if lines > values.len() {
         return Err(Short::LineValues);
     }
     values.fill(0);
-    match draw_lines(
-        parts,
-        question,
-        refutation,
-        lines as u32,
-        formula,
+    let Some(gates) = drawing.lines(lines as u32, formula, gates, values) else {
+        clear(formula);
+        clear(values);
+        return Err(Short::Formula);
+    };
+    let last = number_at(values, lines.saturating_sub(1));
+    Ok(Drawn {
+        literal: Literal::from_number(last),
         gates,
-        values,
-    ) {
-        Some(gates) => {
-            let last = number_at(values, lines.saturating_sub(1));
-            Ok(Drawn {
-                literal: Literal::from_number(last),
-                gates,
-            })
-        }
-        None => {
-            clear(formula);
-            clear(values);
-            Err(Short::Formula)
-        }
-    }
+    })
 }
 
 // Draws the interpolant of a refutation of a path question into a formula list of `gates` gates, those that the question has.
@@ -104,14 +89,11 @@ pub fn interpolate(
     ensures separates_the_parts_of_a_path_question { IfOk result (λ d. InterpolatesPath (counted sheet.now) (counted question.now) (counted refutation.now) formula.old gates formula.new d) }
     ensures lies_between_a_step_and_bad_states { IfOk result (λ d. LiesBetween (counted sheet.now) (counted question.now) (counted refutation.now) formula.old gates formula.new d) }
 {
-    let parts = Parts::new(sheet, question, gates);
+    let drawing = Drawing {
+        parts: Parts::new(sheet, question, gates),
+        question: counted(question),
+        refutation: counted(refutation),
+    };
     let room = counted_len(line_values.len());
-    draw(
-        parts,
-        counted(question),
-        counted(refutation),
-        formula,
-        gates,
-        &mut line_values[0..room],
-    )
+    draw(&drawing, formula, gates, &mut line_values[0..room])
 }

@@ -1,5 +1,5 @@
 // The lines of a refutation, drawn one by one: each gets a literal of the formula list as its value.
-ghost use Rattle.std.specs.Prelude.{◌^◌, ◌≤◌, length};
+ghost use Rattle.std.specs.Prelude.{◌≡◌, ◌^◌, ◌≤◌, length};
 ghost use Rattle.interpolant.specs.Drawing.{or_shared, draw_step, draw_line, draw_lines, Stays, Gives, GivesAll};
 ghost use Rattle.interpolant.specs.Parting.{cut_by};
 
@@ -60,56 +60,55 @@ fn draw_step(
     })
 }
 
-// A clause of the question, or a step. A clause of the second part is 1.
-fn draw_line(
-    parts: Parts,
-    question: &[u32],
-    refutation: &[u32],
-    line: u32,
-    values: &[u32],
-    formula: &mut [u32],
-    gates: u32,
-) -> Option<Drawn>
-    requires few_clauses { length question.now ≤ 2 ^ 28 }
-    requires few_steps { length refutation.now ≤ 2 ^ 28 }
-    ensures gives { Gives result formula.new (draw_line parts.width (cut_by parts) question.now refutation.now values.now line gates formula.old) }
-    ensures keeps { Stays formula.old formula.new }
-{
-    let clauses = clause_count(question);
-    if line >= clauses {
-        let step = step_at(refutation, line - clauses);
-        return draw_step(parts, step, values, formula, gates);
-    }
-    if line >= parts.first {
-        return Some(Drawn {
-            literal: Literal::from_number(1),
-            gates,
-        });
-    }
-    draw_clause(parts, clause(question, line), formula, gates)
+// What is drawn: the lines of a refutation of a question that is cut in two.
+#[derive(Clone, Copy)]
+pub(crate) struct Drawing<'a> {
+    pub parts: Parts,
+    pub question: &'a [u32],
+    pub refutation: &'a [u32],
+    pub ghost few_clauses: { length question.now ≤ 2 ^ 28 },
+    pub ghost few_steps: { length refutation.now ≤ 2 ^ 28 },
 }
 
-// All lines in order, each with its value in `values`. Answers how many gates there are then; None if there is no room for one.
-pub(crate) fn draw_lines(
-    parts: Parts,
-    question: &[u32],
-    refutation: &[u32],
-    lines: u32,
-    formula: &mut [u32],
-    gates: u32,
-    values: &mut [u32],
-) -> Option<u32>
-    requires few_clauses { length question.now ≤ 2 ^ 28 }
-    requires few_steps { length refutation.now ≤ 2 ^ 28 }
-    requires room { lines ≤ length values.old }
-    ensures gives { GivesAll result formula.new values.new (draw_lines parts.width (cut_by parts) question.now refutation.now lines 0 values.old gates formula.old) }
-    ensures keeps { Stays formula.old formula.new }
-{
-    let mut count = gates;
-    for line in 0..lines {
-        let drawn = draw_line(parts, question, refutation, line, values, formula, count)?;
-        values[line as usize] = drawn.literal.number();
-        count = drawn.gates;
+impl Drawing<'_> {
+    // A clause of the question, or a step. A clause of the second part is 1.
+    fn line(&self, line: u32, values: &[u32], formula: &mut [u32], gates: u32) -> Option<Drawn>
+        ensures gives { Gives result formula.new (draw_line self.now.parts.width (cut_by self.now.parts) self.now.question.now self.now.refutation.now values.now line gates formula.old) }
+        ensures keeps { Stays formula.old formula.new }
+    {
+        let clauses = clause_count(self.question);
+        if line >= clauses {
+            let step = step_at(self.refutation, line - clauses);
+            return draw_step(self.parts, step, values, formula, gates);
+        }
+        if line >= self.parts.first {
+            return Some(Drawn {
+                literal: Literal::from_number(1),
+                gates,
+            });
+        }
+        draw_clause(self.parts, clause(self.question, line), formula, gates)
     }
-    Some(count)
+
+    // The first lines in order, each with its value in `values`. Answers how many gates there are then; None if there is no room
+    // for one.
+    pub(crate) fn lines(
+        &self,
+        lines: u32,
+        formula: &mut [u32],
+        gates: u32,
+        values: &mut [u32],
+    ) -> Option<u32>
+        requires { lines ≤ length values.old }
+        ensures gives { GivesAll result formula.new values.new (draw_lines self.now.parts.width (cut_by self.now.parts) self.now.question.now self.now.refutation.now lines 0 values.old gates formula.old) }
+        ensures keeps { Stays formula.old formula.new }
+    {
+        let mut count = gates;
+        for line in 0..lines {
+            let drawn = self.line(line, values, formula, count)?;
+            values[line as usize] = drawn.literal.number();
+            count = drawn.gates;
+        }
+        Some(count)
+    }
 }

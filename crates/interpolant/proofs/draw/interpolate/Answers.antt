@@ -20,7 +20,7 @@ returns c =
     let r = c.draw.result in
     let f' = c.draw.new.formula in
     let vs : List ℕ = c.draw.new.values ++ post_of 0 (c.counted_len-room.result - 0) old in
-    let is = interpolation_by l q t n f old c.new-parts.result c.new-parts.ensures c.counted.result.now c.counted-2.result.now c.counted.ensures.value c.counted-2.ensures.value c.counted_len-room.result c.counted_len-room.ensures r f' c.draw.new.values c.draw.ensures in
+    let is = interpolation_by l q t n f old c.new.result c.new.ensures c.counted.result.now c.counted-2.result.now c.counted.ensures.value c.counted-2.ensures.value c.counted_len-room.result c.counted_len-room.ensures r f' c.draw.new.values c.draw.ensures in
     record {
       draws_each_line_in_order = is;
       says_which_list_is_short = says_which l q t f n old f' vs r is;

@@ -5,4 +5,4 @@ use Rattle.interpolant.proofs.Separating.{separates}
 use Rattle.interpolant.proofs.laws.interpolants_separate.Goals as goal
 
 pub returns : goal.returns
-returns c = record { says_so = refl; partial_interpolants_are_determined = determined; partial_interpolants_separate = separates; path_questions_are_parted = path_parted }
+returns c = record { partial_interpolants_are_determined = determined; partial_interpolants_separate = separates; path_questions_are_parted = path_parted }
