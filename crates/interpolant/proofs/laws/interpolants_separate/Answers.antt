@@ -1,4 +1,3 @@
-use Rattle.std.proofs.Common.{refl}
 use Rattle.interpolant.proofs.Pathways.{path_parted}
 use Rattle.interpolant.proofs.Determining.{determined}
 use Rattle.interpolant.proofs.Separating.{separates}
