@@ -1,13 +1,13 @@
 -- What the builder's calls answer, and the laws of their answers. Assumes nothing.
-use Rattle.std.proofs.Common.{◌≡◌, ℕ, ◌+◌, ◌*◌, ◌^◌, ◌<◌, ◌≤◌, min, max, Bool, false, cond, ◌&&◌, ◌||◌, ltb, leb, ◌⊎◌, List, length, set, IfSome, Some, None, Option, sym, refl, ap, ◌∙◌, subst, ⊎_elim, arith, length-take}
+use Rattle.std.proofs.Common.{◌≡◌, ℕ, ◌+◌, ◌*◌, ◌^◌, ◌<◌, ◌≤◌, min, Bool, false, cond, ◌&&◌, ◌||◌, ltb, leb, ◌⊎◌, List, length, set, IfSome, Some, None, Option, sym, refl, ap, ◌∙◌, subst, ⊎_elim, arith, length-take}
 use Rattle.std.proofs.lemmas.Bool.{cond-true, cond-false, le-leb, lt-leb, lt-ltb, le-ltb, and_from, and_left, and_right}
 use Rattle.lists.specs.Counted.{counted}
 use Rattle.sheet.specs.declared.literal.Literal.{Literal}
 use Rattle.sheet.specs.Sheets.{Sheet}
 use Rattle.formula.specs.declared.builder.Builder.{Builder}
 use Rattle.formula.specs.Formulas.{width, Formula, Gates}
-use Rattle.formula.specs.Conjunction.{simple, opposite, Outcome, grown, short, new_gate, conjoin_by, conjoin, negated, disjoin, Joins}
-use Rattle.formula.specs.Built.{literal, simplified, built, JoinsBy}
+use Rattle.formula.specs.Conjunction.{opposite, Outcome, grown, short, new_gate, conjoin, negated, disjoin, Joins}
+use Rattle.formula.specs.Built.{literal, built, JoinsBy}
 use Rattle.formula.proofs.Valued.{Fine, conjoin_fine, disjoin_fine}
 
 pub counted_length : (f : List ℕ) (len : ℕ) → len ≡ min (length f) (2 ^ 28) → length (counted f) ≡ len
@@ -30,14 +30,6 @@ module _ (w n : ℕ) (f : List ℕ) (a b len : ℕ) (is : len ≡ min (length f)
   gate_grown h l =
       ap gate (counted_length f len is)
       ∙ cond-true _ _ _ (and_from (leb (2 * n + 2) len) (ltb (w + n) (2 ^ 31)) (le-leb (2 * n + 2) len h) (lt-ltb (w + n) (2 ^ 31) l))
-
-not_simple : (o : Option ℕ) → None ≡ simplified o → o ≡ None
-not_simple None h = refl
-not_simple (Some x) h = let z : ◌≡◌ {A = ℕ} 0 1 = cc in absurd (omega arith)
-
-is_simple : (o : Option ℕ) (x : Literal) → Some x ≡ simplified o → o ≡ Some x.0
-is_simple None x h = let z : ◌≡◌ {A = ℕ} 0 1 = cc in absurd (omega arith)
-is_simple (Some y) x h = cc
 
 abbrev Found : Type 0
 Found = Option Literal × Builder × List ℕ
@@ -94,38 +86,19 @@ module _ (g : Builder) (f : List ℕ) (a b : Literal) (r : Option Literal) (g' :
       (λ s w gates fa fb. subst (λ (w : ℕ). Fine s ◌||◌ f g.count a.0 b.0 (disjoin w g.count f a.0 b.0)) w (disjoin_fine s f g.count a.0 b.0 gates fa fb))
       r g' f'
 
--- ---- each call, by what it calls
-module _ (g : Builder) (f : List ℕ) (a b : ℕ) where
-  pub and_simple : (x : Literal) → Some x ≡ simplified (simple a b) → ◌≡◌ {A = Found} (Some x, g, f) (built g f (conjoin g.width g.count f a b))
-  and_simple x h =
-      let is : simple a b ≡ Some x.0 = is_simple (simple a b) x h in
-      sym (ap (λ o. built g f (conjoin_by g.width g.count f a b o)) is)
+-- an OR, by the AND that it is made of
+module _ (g : Builder) (f : List ℕ) (a b a' b' : ℕ) (p : a' ≡ opposite a) (q : b' ≡ opposite b) (g' : Builder) (f' : List ℕ) where
+  abbrev both : ℕ → ℕ → Outcome
+  both x y = conjoin g.width g.count f x y
 
-  pub and_by_gate : (hi lo : ℕ) (found : Found) → None ≡ simplified (simple a b) → hi ≡ max a b → lo ≡ min a b
-      → found ≡ built g f (new_gate g.width g.count f hi lo) → found ≡ built g f (conjoin g.width g.count f a b)
-  and_by_gate hi lo found h p q e =
-      e ∙ (λ i. built g f (new_gate g.width g.count f (p i) (q i)))
-      ∙ sym (ap (λ o. built g f (conjoin_by g.width g.count f a b o)) (not_simple (simple a b) h))
+  negated_some : (o : Outcome) (x y : Literal) → ◌≡◌ {A = Found} (Some x, g', f') (built g f o) → y.0 ≡ opposite x.0 → ◌≡◌ {A = Found} (Some y, g', f') (built g f (negated o))
+  negated_some (grown z n h) x y e is =
+      let same : Some x ≡ Some (literal z) = answers _ _ _ _ _ _ e in
+      let number : x.0 ≡ z = cc in
+      ap (λ (l : ℕ). let t : Found = (Some (literal l), g', f') in t) (is ∙ ap opposite number)
+      ∙ ap (λ (t : Found). let t' : Found = (Some (literal (opposite z)), t.1, t.2) in t') e
+  negated_some short x y e is = absurd (none_some x (sym (answers _ _ _ _ _ _ e)))
 
-  module _ (a' b' : ℕ) (p : a' ≡ opposite a) (q : b' ≡ opposite b) (g' : Builder) (f' : List ℕ) where
-    abbrev both : ℕ → ℕ → Outcome
-    both x y = conjoin g.width g.count f x y
-
-    negated_some : (o : Outcome) (x y : Literal) → ◌≡◌ {A = Found} (Some x, g', f') (built g f o) → y.0 ≡ opposite x.0 → ◌≡◌ {A = Found} (Some y, g', f') (built g f (negated o))
-    negated_some (grown z n h) x y e is =
-        let same : Some x ≡ Some (literal z) = answers _ _ _ _ _ _ e in
-        let number : x.0 ≡ z = cc in
-        ap (λ (l : ℕ). let t : Found = (Some (literal l), g', f') in t) (is ∙ ap opposite number)
-        ∙ ap (λ (t : Found). let t' : Found = (Some (literal (opposite z)), t.1, t.2) in t') e
-    negated_some short x y e is = absurd (none_some x (sym (answers _ _ _ _ _ _ e)))
-
-    negated_none : (o : Outcome) → ◌≡◌ {A = Found} (None, g', f') (built g f o) → ◌≡◌ {A = Found} (None, g', f') (built g f (negated o))
-    negated_none (grown z n h) e = absurd (none_some (literal z) (answers _ _ _ _ _ _ e))
-    negated_none short e = e
-
-    pub or_some : (x y : Literal) → y.0 ≡ opposite x.0 → ◌≡◌ {A = Found} (Some x, g', f') (built g f (both a' b'))
-        → ◌≡◌ {A = Found} (Some y, g', f') (built g f (disjoin g.width g.count f a b))
-    or_some x y is e = negated_some (both (opposite a) (opposite b)) x y (e ∙ (λ i. built g f (both (p i) (q i)))) is
-
-    pub or_none : ◌≡◌ {A = Found} (None, g', f') (built g f (both a' b')) → ◌≡◌ {A = Found} (None, g', f') (built g f (disjoin g.width g.count f a b))
-    or_none e = negated_none (both (opposite a) (opposite b)) (e ∙ (λ i. built g f (both (p i) (q i))))
+  pub or_some : (x y : Literal) → y.0 ≡ opposite x.0 → ◌≡◌ {A = Found} (Some x, g', f') (built g f (both a' b'))
+      → ◌≡◌ {A = Found} (Some y, g', f') (built g f (disjoin g.width g.count f a b))
+  or_some x y is e = negated_some (both (opposite a) (opposite b)) x y (e ∙ (λ i. built g f (both (p i) (q i)))) is

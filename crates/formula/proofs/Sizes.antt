@@ -14,12 +14,12 @@ use Rattle.formula.proofs.Building.{gate_short, gate_grown}
 use Rattle.formula.proofs.Starts.{node_of}
 
 module _ (s : Sheet) where
-  abbrev pub bit : Start → ℕ
+  abbrev bit : Start → ℕ
   bit (set b) = 1
   bit unset = 0
 
   -- how many of m latches from latch i on start with a bit
-  abbrev pub bits : ℕ → ℕ → ℕ
+  abbrev bits : ℕ → ℕ → ℕ
   bits zero i = 0
   bits (suc m) i = bit (s.start i) + bits m (i + 1)
 
@@ -34,15 +34,15 @@ module _ (s : Sheet) where
       sum_by-cons (λ k. cond (is_some (start_bit (s.start k))) 1 0) i (range_with_len (i + 1) m)
       ∙ (λ j. bit_is (s.start i) j + counted_bits m (i + 1) j)
 
-  pub bit_few : (t : Start) → bit t ≤ 1
+  bit_few : (t : Start) → bit t ≤ 1
   bit_few (set b) = omega arith
   bit_few unset = omega arith
 
-  pub bits_few : (m i : ℕ) → bits m i ≤ m
+  bits_few : (m i : ℕ) → bits m i ≤ m
   bits_few zero i = omega arith
   bits_few (suc m) i = omega (arith, bit_few (s.start i), bits_few m (i + 1))
 
-  abbrev pub sized : Outcome → Option ℕ
+  abbrev sized : Outcome → Option ℕ
   sized (grown x n f) = Some n
   sized short = None
 

@@ -14,8 +14,9 @@ pub fn in_frame(x: Literal, frame: u32, width: u32) -> Option<QuestionLiteral>
     ensures is_found_again_in_frame_one { frame ≡ 1 → x.0 / 2 < width → IfSome result (λ y. out_of_frame_one width y.0 ≡ Some x) }
 {
     let offset = frame.checked_mul(width)?.checked_mul(2)?;
-    let number = x.number().checked_add(offset);
-    number.map(QuestionLiteral::from_number)
+    x.number()
+        .checked_add(offset)
+        .map(QuestionLiteral::from_number)
 }
 
 // The literal of a formula's literal in a question of so many frames: the sheet's own nodes stand in frame 0, and the gates

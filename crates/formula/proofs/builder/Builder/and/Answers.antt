@@ -1,22 +1,12 @@
-use Rattle.std.proofs.Common.{rules}
-use Rattle.formula.proofs.Building.{and_simple, and_by_gate, conjoin_joins}
+use Rattle.std.proofs.Common.{Some, arith, rules}
+use Rattle.std.proofs.lemmas.Grind.{common_steps}
+use Rattle.formula.proofs.Building.{conjoin_joins}
 use Rattle.formula.proofs.builder.Builder.and.Goals as goal
 
-pub returns-in-Some : goal.returns-in-Some
-returns-in-Some c =
-    let g = c.args.self.now in
-    let f = c.args.list.now in
-    let a = c.args.a in
-    let b = c.args.b in
-    let is = and_simple g f a.0 b.0 c.in-Some.literal c.in-Some.ensures in
-    record { conjoins = is; is_true_where_both_are = conjoin_joins g f a b _ g f is }
+pub returns-in-Some-clause-is_true_where_both_are : goal.returns-in-Some-clause-is_true_where_both_are
+returns-in-Some-clause-is_true_where_both_are c =
+    conjoin_joins c.args.self.now c.args.list.now c.args.a c.args.b (Some c.in-Some.literal) c.args.self.now c.args.list.now (search rules)
 
-pub returns : goal.returns
-returns c =
-    let g = c.args.self.now in
-    let f = c.args.list.now in
-    let a = c.args.a in
-    let b = c.args.b in
-    let told = c.add_gate.ensures in
-    let is = and_by_gate g f a.0 b.0 _ _ (c.add_gate.result, c.add_gate.new.self, c.add_gate.new.list) c.in_default.ensures (search rules) (search rules) told in
-    record { conjoins = is; is_true_where_both_are = conjoin_joins g f a b c.add_gate.result c.add_gate.new.self c.add_gate.new.list is }
+pub returns-clause-is_true_where_both_are : goal.returns-clause-is_true_where_both_are
+returns-clause-is_true_where_both_are c =
+    conjoin_joins c.args.self.now c.args.list.now c.args.a c.args.b c.add_gate.result c.add_gate.new.self c.add_gate.new.list (grind (arith, common_steps))
