@@ -1,19 +1,18 @@
 -- Literals and parts of a list. Assumes nothing.
-use Rattle.std.proofs.Common.{◌≡◌, ℕ, ◌+◌, ◌-◌, ◌<◌, ◌≤◌, min, true, false, List, [], length, get_or, take, drop, sym, ◌∙◌, ⊎_elim, arith, length-drop}
-use Rattle.std.proofs.lemmas.List.{drop_all, drop_more, get_or_past, take_all}
-use Rattle.std.proofs.lemmas.Bool.{cond-true, cond-false, eq-eqb, ne_eqb, cases_lt}
+use Rattle.std.proofs.Common.{◌≡◌, ℕ, ◌+◌, ◌-◌, ◌<◌, ◌≤◌, min, Bool, true, false, cond, eqb, ◌||◌, List, [], ◌∷◌, length, get_or, take, drop, sym, refl, ap, ◌∙◌, ⊎_elim, arith, length-drop}
+use Rattle.std.proofs.lemmas.List.{drop_all, get_or_past, take_all}
+use Rattle.std.proofs.lemmas.Bool.{cases_lt}
+use Rattle.std.specs.List.{list_any}
 use Rattle.question.specs.Questions.{span}
 use Rattle.answer.specs.Joint.{has}
 
-module _ (xs : List ℕ) (i x : ℕ) where
-  pub has_at : i < length xs → get_or xs i 0 ≡ x → has x (drop i xs) ≡ true
-  has_at h e = rw (drop_more xs i 0 h) (cond-true _ _ _ (eq-eqb _ _ e))
+cond_or : (b c : Bool) → cond b true c ≡ (b || c)
+cond_or true c = refl
+cond_or false c = refl
 
-  pub has_past : i < length xs → (get_or xs i 0 ≡ x → ⊥) → has x (drop i xs) ≡ has x (drop (i + 1) xs)
-  has_past h ne = rw (drop_more xs i 0 h) (cond-false _ _ _ (ne_eqb _ _ ne))
-
-  pub has_end : length xs ≤ i → has x (drop i xs) ≡ false
-  has_end h = rw (drop_all i xs h)
+pub has_is : (x : ℕ) (ys : List ℕ) → has x ys ≡ list_any (λ y. eqb y x) ys
+has_is x [] = refl
+has_is x (y ∷ ys) = cond_or (eqb y x) (has x ys) ∙ ap (λ b. eqb y x || b) (has_is x ys)
 
 pub span_none : (xs : List ℕ) (i : ℕ) → length xs ≤ i + 1 → [] ≡ span xs i
 span_none xs i h =

@@ -10,7 +10,7 @@ ghost use Rattle.answer.specs.Reasons.{RefutationReasoned};
 ghost use Rattle.answer.specs.Runs.{start, run, outcome, verdict, left, checked, Held};
 ghost use Rattle.answer.specs.Steps.{step_count, step_of, refused, made_by, advanced, noted};
 
-use crate::lines::{locate, part};
+use crate::lines::{clause_at, part};
 use crate::obstacles::{blame, come_before};
 use crate::passes::join;
 use crate::steps::{Progress, Step, count_steps, read_step, refusal};
@@ -23,14 +23,14 @@ fn join_lines(question: &[u32], work: &mut [u32], s: Step, at: Progress) -> Opti
     ensures writes { is_some result ≡ true → work.new ≡ sets work.old at.end (made_by question.now work.old s at.end) }
     ensures keeps_the_front { take at.end work.new ≡ take at.end work.old }
 {
-    let end = at.end;
-    if !come_before(question, at.step, s) || end > work.len() {
+    if !come_before(question, at.step, s) {
         return None;
     }
-    let done = &work[0..end];
-    let first = locate(question, done, s.first);
-    let second = locate(question, done, s.second);
-    join(question, work, end, first, second, s.pivot)
+    let (done, free) = work.split_at_mut_checked(at.end)?;
+    let first = clause_at(question, done, s.first);
+    let second = clause_at(question, done, s.second);
+    let count = join(first, second, s.pivot, free)?;
+    Some(at.end + count)
 }
 
 // Carries out the next step: writes its clause, and the place where that ends.
