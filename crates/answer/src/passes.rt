@@ -79,10 +79,12 @@ pub(crate) fn join(
     while let ([x, xs @ ..], [y, ys @ ..]) = (first, second) {
         let (x, y) = (*x, *y);
         tally = tally.keep(free, x.min(y), x <= y, y <= x)?;
-        if x <= y {
+        if x < y {
             first = xs;
-        }
-        if y <= x {
+        } else if y < x {
+            second = ys;
+        } else {
+            first = xs;
             second = ys;
         }
     }

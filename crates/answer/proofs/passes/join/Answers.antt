@@ -1,39 +1,37 @@
-use Rattle.std.proofs.Common.{rules, ◌≡◌, cond, leb, ◌&&◌, ◌⊎◌, [], get_or, drop, sym, refl, ap, ◌∙◌, inl, inr, arith}
+use Rattle.std.proofs.Common.{rules, ◌≡◌, ◌&&◌, ◌⊎◌, [], get_or, sym, refl, ap, ◌∙◌, inl, inr, arith}
 use Rattle.std.proofs.lemmas.List.{nil_from_length}
 use Rattle.answer.proofs.Passing.{went, stayed, turn, next_stops, first_stops, second_stops, both_end}
-use Rattle.answer.proofs.passes.join.Goals.{then-x-y, else-x-y, in_default, in_default-2, then-tally, else-tally}
+use Rattle.answer.proofs.passes.join.Goals.{in_default, in_default-2, then-tally, else-tally}
 use Rattle.answer.proofs.passes.join.Goals as goal
+
+pub loop-first-preserved-then-x-y : goal.loop-first-preserved-then-x-y
+loop-first-preserved-then-x-y c =
+    let f = c.loop-first.first.now in
+    let s = c.loop-first.second.now in
+    let told = c.in_ok-tally.ensures in
+    record {
+      within = told.fits c.loop-first.invariant.within;
+      ends = λ v n h. c.loop-first.invariant.ends v n (turn _ _ _ _ v n f s _ _ (search rules) (search rules) (went f _ (get_or f 0 0) (get_or s 0 0) (omega arith) refl) (stayed s s (get_or s 0 0) (get_or f 0 0) (omega arith) refl) _ c.min.ensures told h);
+    }
 
 pub loop-first-preserved-then-y-x : goal.loop-first-preserved-then-y-x
 loop-first-preserved-then-y-x c =
     let f = c.loop-first.first.now in
     let s = c.loop-first.second.now in
-    let first : c.if-x-y.first.now ≡ cond (leb (get_or f 0 0) (get_or s 0 0)) (drop 1 f) f =
-    elim c.if-x-y.branch [
-      | then-x-y w ↦ went f _ _ _ w.if-x-y.true (ap (λ r. r.now) w.first-is)
-      | else-x-y w ↦ stayed f _ _ _ w.if-x-y.false (ap (λ r. r.now) w.first-is)
-    ] in
+    let told = c.in_ok-tally.ensures in
     record {
-      within = c.in_ok-tally.ensures.fits c.loop-first.invariant.within;
-      ends = λ v n h. c.loop-first.invariant.ends v n (
-          turn _ _ _ _ v n f s _ _ (search rules) (search rules) first (went s _ _ _ c.if-y-x.true refl)
-          _ c.min.ensures c.in_ok-tally.ensures h);
+      within = told.fits c.loop-first.invariant.within;
+      ends = λ v n h. c.loop-first.invariant.ends v n (turn _ _ _ _ v n f s _ _ (search rules) (search rules) (stayed f f (get_or f 0 0) (get_or s 0 0) (omega arith) refl) (went s _ (get_or s 0 0) (get_or f 0 0) (omega arith) refl) _ c.min.ensures told h);
     }
 
 pub loop-first-preserved : goal.loop-first-preserved
 loop-first-preserved c =
     let f = c.loop-first.first.now in
     let s = c.loop-first.second.now in
-    let first : c.if-x-y.first.now ≡ cond (leb (get_or f 0 0) (get_or s 0 0)) (drop 1 f) f =
-    elim c.if-x-y.branch [
-      | then-x-y w ↦ went f _ _ _ w.if-x-y.true (ap (λ r. r.now) w.first-is)
-      | else-x-y w ↦ stayed f _ _ _ w.if-x-y.false (ap (λ r. r.now) w.first-is)
-    ] in
+    let told = c.in_ok-tally.ensures in
     record {
-      within = c.in_ok-tally.ensures.fits c.loop-first.invariant.within;
-      ends = λ v n h. c.loop-first.invariant.ends v n (
-          turn _ _ _ _ v n f s _ _ (search rules) (search rules) first (stayed s s _ _ c.if-y-x.false refl)
-          _ c.min.ensures c.in_ok-tally.ensures h);
+      within = told.fits c.loop-first.invariant.within;
+      ends = λ v n h. c.loop-first.invariant.ends v n (turn _ _ _ _ v n f s _ _ (search rules) (search rules) (went f _ (get_or f 0 0) (get_or s 0 0) (omega arith) refl) (went s _ (get_or s 0 0) (get_or f 0 0) (omega arith) refl) _ c.min.ensures told h);
     }
 
 pub returns-in_err-tally : goal.returns-in_err-tally
