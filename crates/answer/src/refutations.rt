@@ -2,6 +2,7 @@
 ghost use Rattle.std.specs.Prelude.{◌≡◌, ℕ, ◌+◌, ◌^◌, ◌<◌, ◌≤◌, true, false, length, take, replicate, is_some, is_ok, IfOk, Err, Decides};
 ghost use Rattle.std.proofs.lemmas.List.Edits.{sets};
 ghost use Rattle.lists.specs.Counted.{counted, on_counted};
+ghost use Rattle.sheet.specs.Faults.{map_ok};
 ghost use Rattle.question.specs.Questions.{span, IsQuestion, Satisfiable};
 ghost use Rattle.answer.specs.Derivations.{Derives, Refutes, CancelsTwo};
 ghost use Rattle.answer.specs.Layout.{Lays};
@@ -33,29 +34,24 @@ fn join_lines(question: &[u32], work: &mut [u32], s: Step, at: Progress) -> Opti
     Some(at.end + count)
 }
 
-// Carries out the next step: writes its clause, and the place where that ends.
+// Carries out the next step: writes its clause, and the place where that ends, which it answers.
 fn take_step(
     question: &[u32],
     refutation: &[u32],
     work: &mut [u32],
     at: Progress,
-) -> Result<Progress, Fault>
+) -> Result<usize, Fault>
     requires behind { at.step + 1 < at.end }
     requires few { length work.old ≤ 2 ^ 28 }
-    ensures goes_on { result ≡ advanced question.now work.old (step_of refutation.now at.step) at }
+    ensures goes_on { result ≡ map_ok (λ more. more.end) (advanced question.now work.old (step_of refutation.now at.step) at) }
     ensures writes { IfOk result (λ more. work.new ≡ noted question.now work.old (step_of refutation.now at.step) at) }
 {
     let s = read_step(refutation, at.step);
-    match join_lines(question, work, s, at) {
-        Some(end) => {
-            work[at.step as usize + 1] = end as u32;
-            Ok(Progress {
-                step: at.step + 1,
-                end,
-            })
-        }
-        None => Err(blame(question, work, s, at)),
-    }
+    let Some(end) = join_lines(question, work, s, at) else {
+        return Err(blame(question, work, s, at));
+    };
+    work[at.step as usize + 1] = end as u32;
+    Ok(end)
 }
 
 // Carries out all steps, into a working list that is zero but for its first place.
@@ -70,17 +66,15 @@ fn take_steps(
     ensures answers { result ≡ verdict (run question.now refutation.now steps work.old (start steps)) }
     ensures leaves { Held (run question.now refutation.now steps work.old (start steps)) work.new }
 {
-    let mut at = Progress {
-        step: 0,
-        end: steps as usize + 1,
-    };
-    while at.step < steps {
-        at = take_step(question, refutation, work, at)?;
+    let mut end = steps as usize + 1;
+    for step in 0..steps {
+        end = take_step(question, refutation, work, Progress { step, end })?;
     }
-    if part(work, at.step as usize - 1).is_empty() {
+    let last = steps - 1;
+    if part(work, last as usize).is_empty() {
         Ok(())
     } else {
-        Err(refusal(46, at.step - 1))
+        Err(refusal(46, last))
     }
 }
 
@@ -92,8 +86,8 @@ fn derive(question: &[u32], refutation: &[u32], work: &mut [u32]) -> Result<(), 
     ensures leaves { Held (outcome question.now refutation.now (length work.old)) work.new }
 {
     let steps = count_steps(refutation)?;
-    if !work.is_empty() {
-        work[0] = steps + 1;
+    if let Some(first) = work.first_mut() {
+        *first = steps + 1;
     }
     take_steps(question, refutation, work, steps)
 }
