@@ -1,4 +1,5 @@
--- The checks of a step, by the clauses of its lines as they are read from the front of the working list. Assumes nothing.
+-- The checks and the clause of a step, by the clauses of its lines as they are read from the front of the working list.
+-- Assumes nothing.
 use Rattle.std.proofs.Common.{◌≡◌, ℕ, suc, true, List, [], ◌∷◌, ◌++◌, length, take, set, sym, refl, ap, ◌∙◌}
 use lib.Seq.{sets}
 use Rattle.std.proofs.lemmas.Bool.{cond-true}

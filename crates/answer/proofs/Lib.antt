@@ -1,4 +1,3 @@
-pub mod Spans
 pub mod Passing
 pub mod Fronts
 pub mod Going

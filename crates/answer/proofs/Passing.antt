@@ -13,7 +13,7 @@ none false true = refl
 none false false = refl
 
 -- whether a literal has come, after one more that may be it and others
-pub told : (f a e h : Bool) → ((f || (a && cond e true false)) || (a && h)) ≡ (f || (a && cond e true h))
+told : (f a e h : Bool) → ((f || (a && cond e true false)) || (a && h)) ≡ (f || (a && cond e true h))
 told true a e h = refl
 told false true true h = refl
 told false true false h = refl

@@ -24,17 +24,12 @@ impl Tally {
     {
         let variable = literal / 2;
         if variable == self.pivot {
-            return if literal % 2 == 0 {
-                Some(Tally {
-                    plain: self.plain || in_first,
-                    ..self
-                })
-            } else {
-                Some(Tally {
-                    negated: self.negated || in_second,
-                    ..self
-                })
-            };
+            let plain = literal % 2 == 0;
+            return Some(Tally {
+                plain: self.plain || plain && in_first,
+                negated: self.negated || !plain && in_second,
+                ..self
+            });
         }
         if variable == self.last || self.count >= free.len() {
             return None;

@@ -1,7 +1,7 @@
 use Rattle.std.proofs.Common.{eqb, rules, tests, sym, ◌∙◌}
 use Rattle.std.proofs.lemmas.Iterator.{YieldsList-from_slice}
 use Rattle.std.proofs.lemmas.Iterator.Search.{any_from_yields_List}
-use Rattle.answer.proofs.Spans.{has_is}
+use Rattle.answer.proofs.Members.{has_is}
 use Rattle.answer.proofs.obstacles.has_literal.Goals as goal
 
 pub returns : goal.returns
