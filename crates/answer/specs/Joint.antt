@@ -18,11 +18,6 @@ lowest [] (y ∷ ys) = Some y
 lowest (x ∷ xs) [] = Some x
 lowest (x ∷ xs) (y ∷ ys) = Some (min x y)
 
--- what comes after a literal in a list that may begin with it
-abbrev pub after : ℕ → List ℕ → List ℕ
-after z [] = []
-after z (x ∷ xs) = cond (x == z) xs (x ∷ xs)
-
 -- the literals of other variables than p
 abbrev pub without : ℕ → List ℕ → List ℕ
 without p [] = []

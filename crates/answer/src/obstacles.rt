@@ -1,6 +1,6 @@
 // Why a step that could not be carried out is refused. The step is read again, slowly: this happens once in a refutation.
 ghost use Rattle.std.specs.Prelude.{◌≡◌, ◌+◌};
-ghost use Rattle.answer.specs.Joint.{lowest, after, clashing, has, opposes};
+ghost use Rattle.answer.specs.Joint.{lowest, clashing, has, opposes};
 ghost use Rattle.answer.specs.Passes.{blamed};
 ghost use Rattle.answer.specs.Steps.{matched, suited, come_before};
 
@@ -19,16 +19,6 @@ fn lowest(first: &[u32], second: &[u32]) -> Option<u32>
     }
 }
 
-// What comes after a literal in a clause that may begin with it.
-fn after(clause: &[u32], literal: u32) -> &[u32]
-    ensures { result.now ≡ after literal clause.now }
-{
-    match clause {
-        [x, rest @ ..] if *x == literal => rest,
-        _ => clause,
-    }
-}
-
 // Whether a variable comes twice in the two clauses joined without the pivot's variable.
 fn clash(mut first: &[u32], mut second: &[u32], pivot: u32) -> bool
     ensures { result ≡ clashing first.now second.now pivot }
@@ -42,8 +32,8 @@ fn clash(mut first: &[u32], mut second: &[u32], pivot: u32) -> bool
             }
             last = variable;
         }
-        first = after(first, literal);
-        second = after(second, literal);
+        first = first.strip_prefix(&[literal]).unwrap_or(first);
+        second = second.strip_prefix(&[literal]).unwrap_or(second);
     }
     false
 }
