@@ -1,17 +1,19 @@
 -- Why an assignment is refused, and what makes a refusal's reason the only one. Assumes nothing.
-use Rattle.std.proofs.Common.{◌≡◌, ℕ, zero, suc, ◌+◌, ◌<◌, ◌≤◌, Bool, true, false, cond, eqb, ltb, List, [], ◌∷◌, length, get_or, Some, None, Ok, Err, Option, Result, sym, refl, ap, ◌∙◌, subst, ⊎_elim, arith}
+use Rattle.std.proofs.Common.{◌≡◌, ℕ, zero, suc, ◌+◌, ◌^◌, ◌<◌, ◌≤◌, Bool, true, false, cond, eqb, ltb, List, [], ◌∷◌, length, get_or, Some, None, Ok, Err, Option, MatchOption, Result, sym, refl, ap, ◌∙◌, subst, ⊎_elim, arith}
 use Rattle.std.proofs.lemmas.Bool.{cond-true, cond-false, lt-ltb, le-ltb, ltb-true, ltb-false, eqb-true, eqb-false, eq-eqb, ne_eqb, cases_lt, cases_eq}
+use Rattle.std.specs.List.{AllWithin, HoldsAt}
 use Rattle.sheet.specs.Faults.{fault, and_then, demand}
 use Rattle.sheet.specs.declared.fault.Cause.{Cause}
 use Rattle.sheet.specs.declared.fault.Cause.TheVariants.{WrongCount, NotABit, FalseClause}
 use Rattle.sheet.specs.declared.fault.Fault.{Fault}
 use Rattle.sheet.specs.declared.fault.Layer.{Layer}
 use Rattle.sheet.specs.declared.fault.Layer.TheVariants.{Assignment}
+use Rattle.lists.specs.Counted.{counted}
 use Rattle.signal.specs.Truth.{holds, bits_of}
 use Rattle.question.specs.Questions.{variable_count, clause_count, clause_of}
 use Rattle.answer.specs.Assignments.{first_non_bit, lowest_false, unless_found, judged}
 use Rattle.answer.specs.Reasons.{Reasoned, Bit, NotSatisfying, not_as_many, no_bit, false_clause, AssignmentReasoned}
-use Rattle.answer.proofs.Judging.{none_from, bit_from}
+use Rattle.answer.proofs.Judging.{counted_all, span_few, none_from, bit_from, all_to}
 
 -- ---- reasons in general
 pub err_same : {X : Type 0} (f g : Fault) → ◌≡◌ {A = Result X Fault} (Err f) (Err g) → f ≡ g
@@ -90,6 +92,15 @@ found_first i (x ∷ xs) (suc j) l before here =
     ∙ found_first (i + 1) xs j (omega arith) (λ m b. before (suc m) (omega arith)) here
     ∙ ap Some same
 
+-- what a search for the first that is no bit gives
+pub first_is : (xs : List ℕ) (r : Option ℕ) →
+    MatchOption r (AllWithin (λ x. x ≤ 1) xs 0 (length xs)) (λ j. (j < length xs) × HoldsAt (λ x. 1 < x) xs j × AllWithin (λ x. x ≤ 1) xs 0 j) →
+    r ≡ first_non_bit 0 xs
+first_is xs None h = sym (none_bits 0 xs (λ j l. bit_from _ (omega (arith, h j 0 (omega arith) l))))
+first_is xs (Some j) h =
+    let same : 0 + j ≡ j = omega arith in
+    sym (found_first 0 xs j h.0 (λ m l. bit_from _ (omega (arith, h.2 m 0 (omega arith) l))) (λ b. omega (arith, h.1 0, bit_below _ b)) ∙ ap Some same)
+
 -- ---- the lowest false clause
 module _ (q : List ℕ) (α : ℕ → Bool) where
   record LowestAt (k n i : ℕ) : Type 0 where
@@ -128,6 +139,25 @@ module _ (q : List ℕ) (α : ℕ → Bool) where
       (λ (same : i ≡ k). cond-false _ _ _ (ap (λ v. holds α (clause_of q v)) (sym same) ∙ here) ∙ ap Some (sym same))
       (λ ne. cond-true _ _ _ (before k (omega arith)) ∙ found_lowest (k + 1) n i (omega arith) (omega arith) before here)
       (cases_eq i k)
+
+-- what a search for the lowest false clause gives, where each place of the lists counts
+abbrev pub truth : List ℕ → List ℕ → ℕ → Bool
+truth q numbers k = holds (bits_of (counted numbers)) (counted (clause_of q k))
+
+module _ (q numbers : List ℕ) (few : length q ≤ 2 ^ 28) (short : length numbers ≤ 2 ^ 28) where
+  truth_is : (k : ℕ) → holds (bits_of numbers) (clause_of q k) ≡ truth q numbers k
+  truth_is k =
+      ap (λ v. holds (bits_of v) (clause_of q k)) (sym (counted_all numbers short))
+      ∙ ap (holds (bits_of (counted numbers))) (sym (counted_all (clause_of q k) (omega (arith, span_few q (3 + k)))))
+
+  pub lowest_is : (n : ℕ) (r : Option ℕ) →
+      MatchOption r
+      ((k : ℕ) → 0 ≤ k → k < n → truth q numbers k ≡ true)
+      (λ i. (0 ≤ i) × (i < n) × (truth q numbers i ≡ false) × ((k : ℕ) → 0 ≤ k → k < i → truth q numbers k ≡ true)) →
+      r ≡ lowest_false q (bits_of numbers) 0 n
+  lowest_is n None h = sym (all_to q (bits_of numbers) 0 n (λ j l. truth_is j ∙ h j (omega arith) (omega arith)))
+  lowest_is n (Some i) h =
+      sym (found_lowest q (bits_of numbers) 0 n i (omega arith) (omega (arith, h.1)) (λ j l. truth_is j ∙ h.3 j (omega arith) l) (truth_is i ∙ h.2))
 
 -- ---- an assignment's refusal
 module _ (q numbers : List ℕ) where

@@ -1,8 +1,8 @@
 -- What the checks of an assignment say. Assumes nothing.
-use Rattle.std.proofs.Common.{◌≡◌, ℕ, zero, suc, ◌+◌, ◌-◌, ◌^◌, ◌<◌, ◌≤◌, Bool, true, false, cond, eqb, ltb, ◌⊎◌, List, [], ◌∷◌, length, get_or, drop, is_ok, Some, None, Decides, Option, Result, sym, refl, ap, ◌∙◌, inl, inr, ⊎_elim, arith, length-drop, length-take}
+use Rattle.std.proofs.Common.{◌≡◌, ℕ, zero, suc, ◌+◌, ◌^◌, ◌<◌, ◌≤◌, Bool, true, false, cond, eqb, ltb, ◌⊎◌, List, [], ◌∷◌, length, is_ok, Some, None, Decides, Option, Result, sym, refl, ap, ◌∙◌, inl, inr, ⊎_elim, arith, length-drop, length-take}
 use Rattle.std.specs.List.{AllByRecursion}
-use Rattle.std.proofs.lemmas.List.{take_all, drop_more, drop_all}
-use Rattle.std.proofs.lemmas.Bool.{cond-true, cond-false, lt-ltb, le-ltb, ltb-true, eqb-true, eq-eqb, cases_eq}
+use Rattle.std.proofs.lemmas.List.{take_all}
+use Rattle.std.proofs.lemmas.Bool.{cond-true, lt-ltb, ltb-true, eqb-true, eq-eqb, cases_eq}
 use Rattle.sheet.specs.Faults.{and_then, demand}
 use Rattle.sheet.specs.declared.fault.Cause.{Cause}
 use Rattle.sheet.specs.declared.fault.Cause.TheVariants.{NotABit, FalseClause}
@@ -18,35 +18,6 @@ counted_all xs few = take_all (2 ^ 28) xs few
 
 pub span_few : (xs : List ℕ) (i : ℕ) → length (span xs i) ≤ length xs
 span_few xs i = simp (length-take, length-drop) (omega arith)
-
-pub truth_at : (r : Bool) (numbers xs ys : List ℕ) (i : ℕ) → length numbers ≤ 2 ^ 28 → length xs ≤ 2 ^ 28 → ys ≡ span xs i →
-    r ≡ holds (bits_of (counted numbers)) (counted ys) → r ≡ holds (bits_of numbers) (span xs i)
-truth_at r numbers xs ys i short few is told =
-    told
-    ∙ ap (λ v. holds (bits_of v) (counted ys)) (counted_all numbers short)
-    ∙ ap (λ v. holds (bits_of numbers) (counted v)) is
-    ∙ ap (holds (bits_of numbers)) (counted_all (span xs i) (omega (arith, span_few xs i)))
-
--- ---- the loops
-module _ (xs : List ℕ) (i : ℕ) (here : i < length xs) where
-  pub bit_past : get_or xs i 0 ≤ 1 → first_non_bit i (drop i xs) ≡ first_non_bit (i + 1) (drop (i + 1) xs)
-  bit_past h = rw (drop_more xs i 0 here) (cond-true _ _ _ (lt-ltb (get_or xs i 0) 2 (omega arith)))
-
-  pub bit_not : 1 < get_or xs i 0 → first_non_bit i (drop i xs) ≡ Some i
-  bit_not h = rw (drop_more xs i 0 here) (cond-false _ _ _ (le-ltb (get_or xs i 0) 2 (omega arith)))
-
-pub bit_end : (xs : List ℕ) (i : ℕ) → length xs ≤ i → first_non_bit i (drop i xs) ≡ None
-bit_end xs i h = rw (drop_all i xs h)
-
-module _ (q : List ℕ) (α : ℕ → Bool) (k n : ℕ) (less : k < n) where
-  more : n - k ≡ suc (n - (k + 1))
-  more = omega arith
-
-  pub clause_past : holds α (clause_of q k) ≡ true → lowest_false q α k (n - k) ≡ lowest_false q α (k + 1) (n - (k + 1))
-  clause_past h = rw more (cond-true _ _ _ h)
-
-  pub clause_not : holds α (clause_of q k) ≡ false → lowest_false q α k (n - k) ≡ Some k
-  clause_not h = rw more (cond-false _ _ _ h)
 
 -- ---- what the definition means
 pub none_from : {X : Type 0} (b : Bool) (o : Option X) (x : X) (P : Type 0) → (b ≡ true → o ≡ None → P) → cond b o (Some x) ≡ None → P
@@ -81,7 +52,7 @@ module _ (q : List ℕ) (α : ℕ → Bool) where
       (cases_eq j k))
       h
 
-  all_to : (k n : ℕ) → ((j : ℕ) → j < k + n → holds α (clause_of q j) ≡ true) → lowest_false q α k n ≡ None
+  pub all_to : (k n : ℕ) → ((j : ℕ) → j < k + n → holds α (clause_of q j) ≡ true) → lowest_false q α k n ≡ None
   all_to k zero h = refl
   all_to k (suc n) h = cond-true _ _ _ (h k (omega arith)) ∙ all_to (k + 1) n (λ j l. h j (omega arith))
 

@@ -1,9 +1,4 @@
-pub mod Turns
-pub mod Spans
-pub mod Takings
-pub mod Holding
 pub mod Passing
-pub mod Parting
 pub mod Fronts
 pub mod Going
 pub mod Judging

@@ -1,6 +1,7 @@
 -- The literals of a union, and of a union without a variable. Assumes nothing.
-use Rattle.std.proofs.Common.{◌≡◌, ℕ, ◌/◌, ◌<◌, ◌≤◌, true, false, eqb, ltb, ◌⊎◌, List, [], ◌∷◌, sym, refl, ap, ◌∙◌, inl, inr, ⊎_elim, arith}
+use Rattle.std.proofs.Common.{◌≡◌, ℕ, ◌/◌, ◌<◌, ◌≤◌, Bool, true, false, cond, eqb, ltb, ◌||◌, ◌⊎◌, List, [], ◌∷◌, sym, refl, ap, ◌∙◌, inl, inr, ⊎_elim, arith}
 use Rattle.std.proofs.lemmas.Bool.{cond_both, ltb-true, ltb-false, eqb-true, eqb-false}
+use Rattle.std.specs.List.{list_any}
 use Rattle.question.specs.Questions.{Mem, Clause}
 use Rattle.answer.specs.Joint.{union, without, repeats, has}
 
@@ -120,3 +121,11 @@ asc_same (x ∷ xs) (y ∷ ys) a b f g =
     (λ z m. ⊎_elim (λ e. let l : x < z = a.0 z m in absurd (omega arith)) (λ n. n) (f z (inr m)))
     (λ z m. ⊎_elim (λ e. let l : y < z = b.0 z m in absurd (omega arith)) (λ n. n) (g z (inr m))) in
     cc
+
+cond_or : (b c : Bool) → cond b true c ≡ (b || c)
+cond_or true c = refl
+cond_or false c = refl
+
+pub has_is : (x : ℕ) (ys : List ℕ) → has x ys ≡ list_any (λ y. eqb y x) ys
+has_is x [] = refl
+has_is x (y ∷ ys) = cond_or (eqb y x) (has x ys) ∙ ap (λ b. eqb y x || b) (has_is x ys)

@@ -1,81 +1,182 @@
--- A pass over two clauses, from turn to turn. Assumes nothing.
-use Rattle.std.proofs.Common.{◌≡◌, ℕ, ◌+◌, ◌<◌, ◌≤◌, Bool, true, false, ◌&&◌, ◌||◌, ◌⊎◌, List, [], ◌∷◌, ◌++◌, length, get_or, take, drop, sym, refl, ap, ◌∙◌, inl, inr, ⊎_elim, arith}
-use Rattle.std.proofs.lemmas.List.{drop_all, drop_more, take-take}
+-- A pass over two clauses, from literal to literal. Assumes nothing.
+use Rattle.std.proofs.Common.{◌≡◌, ℕ, ◌+◌, ◌-◌, ◌*◌, ◌<◌, ◌≤◌, min, Bool, true, false, cond, eqb, leb, ◌&&◌, ◌||◌, ◌⊎◌, List, [], ◌∷◌, ◌++◌, length, get_or, take, drop, Some, None, Option, is_some, sym, refl, ap, ◌∙◌, subst, ⊎_elim, arith, length-drop}
+use Rattle.std.specs.Bool.{then_some}
+use Rattle.std.proofs.lemmas.Bool.{false≢true, cond-true, cond-false, lt-ltb, le-ltb, le-leb, lt-leb, leb-true, cases_lt}
+use Rattle.std.proofs.lemmas.List.{append-nil, take_all}
 use Rattle.answer.specs.declared.passes.Tally.{Tally}
-use Rattle.answer.specs.Joint.{union}
-use Rattle.answer.specs.Joint.{has}
-use Rattle.answer.specs.Passes.{Passed, Stuck}
-use Rattle.answer.proofs.Takings.{first_or}
+use Rattle.answer.specs.Joint.{union, has}
+use Rattle.answer.specs.Passes.{due, filled, Took, Taken}
 
-pub starts : (p : ℕ) (t : Tally) (w u : List ℕ) → t.to ≤ length w → Passed p t t w w u u
-starts p t w u h = record { lasts = refl; writes = refl; clash = refl; low = omega arith; high = h; size = refl; front = refl }
+none : (f a : Bool) → f ≡ (f || (a && false))
+none true a = refl
+none false true = refl
+none false false = refl
 
-front_at : (n m : ℕ) (v w : List ℕ) → n ≤ m → take m v ≡ take m w → take n v ≡ take n w
-front_at n m v w h e = sym (take-take n m v h) ∙ ap (take n) e ∙ take-take n m w h
+-- whether a literal has come, after one more that may be it and others
+told : (f a e h : Bool) → ((f || (a && cond e true false)) || (a && h)) ≡ (f || (a && cond e true h))
+told true a e h = refl
+told false true true h = refl
+told false true false h = refl
+told false false e h = refl
 
-module _ (p : ℕ) (t t' : Tally) (w w' u u' : List ℕ) (done : Passed p t t' w w' u u') where
-  pub passed_front : (end : ℕ) → end ≤ t.to → take end w' ≡ take end w
-  passed_front end h = front_at end t.to w' w h done.front
-
-  pub goes_on : (t'' : Tally) (w'' u'' : List ℕ) → Passed p t' t'' w' w'' u' u'' → Passed p t t'' w w'' u u''
-  goes_on t'' w'' u'' more = record {
-    lasts = done.lasts ∙ more.lasts;
-    writes = done.writes ∙ more.writes;
-    clash = done.clash ∙ more.clash;
-    low = omega (arith, done.low, more.low);
-    high = more.high;
-    size = more.size ∙ done.size;
-    front = front_at t.to t'.to w'' w' done.low more.front ∙ done.front;
+module _ (t t' : Tally) (a b : Bool) (w w' : List ℕ) (x : ℕ) (took : Took t t' a b w w' (x ∷ [])) where
+  pub taken_more : (v zs : List ℕ) (r : Option Tally) → Taken t' a b w' v zs r → Taken t a b w v (x ∷ zs) r
+  taken_more v zs None h = λ u. took.ends (zs ++ u) ∙ h u
+  taken_more v zs (Some t'') h = record {
+    pivot = h.pivot ∙ took.pivot;
+    ends = λ u. took.ends (zs ++ u) ∙ h.ends u;
+    writes = λ u. took.writes (zs ++ u) ∙ h.writes u;
+    plain = rw (h.plain, took.plain, took.pivot) (told t.plain a _ _);
+    negated = rw (h.negated, took.negated, took.pivot) (told t.negated b _ _);
+    fits = λ l. h.fits (took.fits l);
   }
 
-  pub gets_stuck : (w'' : List ℕ) → Stuck p t' w' w'' u' → Stuck p t w w'' u
-  gets_stuck w'' stop = record {
-    why = ⊎_elim (λ h. inl (done.clash ∙ h)) (λ h. inr (omega (arith, h, done.lasts, done.size))) stop.why;
-    front = front_at t.to t'.to w'' w' done.low stop.front ∙ done.front;
-  }
+pub taken_none : (t : Tally) (a b : Bool) (w : List ℕ) → Took t t a b w w []
+taken_none t a b w = record {
+  pivot = refl;
+  ends = λ u. refl;
+  writes = λ u. refl;
+  plain = none t.plain a;
+  negated = none t.negated b;
+  fits = λ h. h;
+}
 
--- the next literal of a list
-pub next_of : (xs u : List ℕ) (k x : ℕ) → k < length xs → x ≡ get_or xs k 0 → drop k xs ++ u ≡ x ∷ (drop (k + 1) xs ++ u)
-next_of xs u k x h e = ap (λ v. v ++ u) (drop_more xs k 0 h) ∙ ap (λ y. y ∷ (drop (k + 1) xs ++ u)) (sym e)
+-- ---- what is left of two clauses
+-- what comes of the literals xs of the first clause and ys of the second
+abbrev pub Ends : Tally → List ℕ → List ℕ → List ℕ → List ℕ → Option ℕ → Type 0
+Ends t w v xs ys n =
+    (n ≡ cond ((t.plain || has (2 * t.pivot) xs) && (t.negated || has (2 * t.pivot + 1) ys)) (due t (length w) (union xs ys)) None)
+    × (is_some n ≡ true → v ≡ filled t w (union xs ys))
 
-pub or_none : (f : Bool) → f ≡ (f || false)
-or_none true = refl
-or_none false = refl
+union_turn : (x y : ℕ) (xs ys : List ℕ) → union (x ∷ xs) (y ∷ ys) ≡ min x y ∷ union (cond (leb x y) xs (x ∷ xs)) (cond (leb y x) ys (y ∷ ys))
+union_turn x y xs ys =
+    ⊎_elim
+    (λ (l : x < y).
+    let m : min x y ≡ x = omega arith in
+    let a = le-leb x y (omega arith) in
+    let b = lt-leb y x l in
+    rw (m, a, b) (cond-true _ _ _ (lt-ltb x y l)))
+    (λ (l : y ≤ x). ⊎_elim
+    (λ (k : y < x).
+    let m : min x y ≡ y = omega arith in
+    let a = lt-leb x y k in
+    let b = le-leb y x l in
+    rw (m, a, b) (cond-false _ _ _ (le-ltb x y l) ∙ cond-true _ _ _ (lt-ltb y x k)))
+    (λ (k : x ≤ y).
+    let m : min x y ≡ x = omega arith in
+    let a = le-leb x y k in
+    let b = le-leb y x l in
+    rw (m, a, b) (cond-false _ _ _ (le-ltb x y l) ∙ cond-false _ _ _ (le-ltb y x k)))
+    (cases_lt y x))
+    (cases_lt x y)
 
-pub or_assoc : (f g h : Bool) → (f || (g || h)) ≡ ((f || g) || h)
-or_assoc true g h = refl
-or_assoc false g h = refl
+-- a list that the literal may come from, which is then the first of the list
+seen : (z x m : ℕ) (xs : List ℕ) (f f' a : Bool) → (a ≡ true → m ≡ x) → f' ≡ (f || (a && has z (m ∷ []))) → (f || has z (x ∷ xs)) ≡ (f' || has z (cond a xs (x ∷ xs)))
+seen z x m xs f f' true same is = let e = same refl in rw (is, e) (sym (told f true (eqb x z) (has z xs)))
+seen z x m xs f f' false same is = rw is (ap (λ b. b || has z (x ∷ xs)) (none f false))
 
-and_or : (a g h : Bool) → (a && (g || h)) ≡ ((a && g) || (a && h))
-and_or true g h = refl
-and_or false g h = refl
+module _ (t t' : Tally) (w w' v : List ℕ) (n : Option ℕ) where
+  turned : (x y : ℕ) (xs ys : List ℕ) → Took t t' (leb x y) (leb y x) w w' (min x y ∷ []) →
+      Ends t' w' v (cond (leb x y) xs (x ∷ xs)) (cond (leb y x) ys (y ∷ ys)) n → Ends t w v (x ∷ xs) (y ∷ ys) n
+  turned x y xs ys took h =
+      let xs' : List ℕ = cond (leb x y) xs (x ∷ xs) in
+      let ys' : List ℕ = cond (leb y x) ys (y ∷ ys) in
+      let u : List ℕ = union xs' ys' in
+      let p = seen (2 * t.pivot) x (min x y) xs t.plain t'.plain (leb x y) (λ e. let l = leb-true x y e in omega arith) took.plain in
+      let q = seen (2 * t.pivot + 1) y (min x y) ys t.negated t'.negated (leb y x) (λ e. let l = leb-true y x e in omega arith) took.negated in
+      let next = union_turn x y xs ys in (
+        h.0
+            ∙ ap (λ k. cond ((t'.plain || has (2 * k) xs') && (t'.negated || has (2 * k + 1) ys')) (due t' (length w') u) None) took.pivot
+            ∙ ap (λ k. cond (k && (t'.negated || has (2 * t.pivot + 1) ys')) (due t' (length w') u) None) (sym p)
+            ∙ ap (λ k. cond ((t.plain || has (2 * t.pivot) (x ∷ xs)) && k) (due t' (length w') u) None) (sym q)
+            ∙ ap (λ k. cond ((t.plain || has (2 * t.pivot) (x ∷ xs)) && (t.negated || has (2 * t.pivot + 1) (y ∷ ys))) k None) (sym (ap (due t (length w)) next ∙ took.ends u)),
+        λ s. h.1 s ∙ sym (took.writes u) ∙ ap (filled t w) (sym next),
+      )
 
-and_none : (a : Bool) → false ≡ (a && false)
-and_none true = refl
-and_none false = refl
+  pub turn : (f s f' s' : List ℕ) → 0 < length f → 0 < length s →
+      f' ≡ cond (leb (get_or f 0 0) (get_or s 0 0)) (drop 1 f) f → s' ≡ cond (leb (get_or s 0 0) (get_or f 0 0)) (drop 1 s) s →
+      (m : ℕ) → m ≡ min (get_or f 0 0) (get_or s 0 0) → Took t t' (leb (get_or f 0 0) (get_or s 0 0)) (leb (get_or s 0 0) (get_or f 0 0)) w w' (m ∷ []) →
+      Ends t' w' v f' s' n → Ends t w v f s n
+  turn [] s f' s' some other a b m is took h = absurd (omega (arith, some))
+  turn (x ∷ xs) [] f' s' some other a b m is took h = absurd (omega (arith, other))
+  turn (x ∷ xs) (y ∷ ys) f' s' some other a b m is took h = turned x y xs ys (subst (λ z. Took t t' (leb x y) (leb y x) w w' (z ∷ [])) is took) (subst (λ k. Ends t' w' v k (cond (leb y x) ys (y ∷ ys)) n) a (subst (λ k. Ends t' w' v f' k n) b h))
 
--- whether a literal has come, or is to come, after one more of the list
-pub told_more : (z : ℕ) (xs : List ℕ) (k x : ℕ) (f f' a : Bool) → k < length xs → x ≡ get_or xs k 0 → f' ≡ (f || (a && has z (x ∷ []))) → (f || (a && has z (drop k xs))) ≡ (f' || (a && has z (drop (k + 1) xs)))
-told_more z xs k x f f' a h e is =
-    ap (λ v. f || (a && has z v)) (drop_more xs k 0 h ∙ ap (λ y. y ∷ drop (k + 1) xs) (sym e))
-    ∙ ap (λ v. f || (a && v)) (first_or _ (has z (drop (k + 1) xs)))
-    ∙ ap (λ v. f || v) (and_or a _ (has z (drop (k + 1) xs)))
-    ∙ or_assoc f _ _
-    ∙ ap (λ v. v || (a && has z (drop (k + 1) xs))) (sym is)
+-- the lower of the first literals of two lists comes first in their union
+union_next : (f s : List ℕ) → 0 < length f → 0 < length s →
+    union f s
+    ≡ min (get_or f 0 0) (get_or s 0 0)
+    ∷ union (cond (leb (get_or f 0 0) (get_or s 0 0)) (drop 1 f) f) (cond (leb (get_or s 0 0) (get_or f 0 0)) (drop 1 s) s)
+union_next [] s some other = absurd (omega (arith, some))
+union_next (x ∷ xs) [] some other = absurd (omega (arith, other))
+union_next (x ∷ xs) (y ∷ ys) some other = union_turn x y xs ys
 
-pub told_all : (z : ℕ) (xs : List ℕ) (k : ℕ) (f a : Bool) → length xs ≤ k → f ≡ (f || (a && has z (drop k xs)))
-told_all z xs k f a h = or_none f ∙ ap (λ v. f || v) (and_none a) ∙ ap (λ v. f || (a && has z v)) (sym (drop_all k xs h))
+-- the rest of a list from its second place, or the list as it was
+pub went : (f f' : List ℕ) (x y : ℕ) → x ≤ y → f' ≡ take (length f - 1) (drop 1 f) → f' ≡ cond (leb x y) (drop 1 f) f
+went f f' x y l e = e ∙ take_all (length f - 1) (drop 1 f) (simp length-drop (omega arith)) ∙ sym (cond-true _ _ _ (le-leb x y l))
 
-pub told_turn : (z : ℕ) (xs : List ℕ) (i i' x : ℕ) (f f' a : Bool) → has z (drop i xs) ≡ ((a && has z (x ∷ [])) || has z (drop i' xs)) → f' ≡ (f || (a && has z (x ∷ []))) → (f || has z (drop i xs)) ≡ (f' || has z (drop i' xs))
-told_turn z xs i i' x f f' a e is = ap (λ v. f || v) e ∙ or_assoc f _ _ ∙ ap (λ v. v || has z (drop i' xs)) (sym is)
+pub stayed : (f f' : List ℕ) (x y : ℕ) → y < x → f' ≡ f → f' ≡ cond (leb x y) (drop 1 f) f
+stayed f f' x y l e = e ∙ sym (cond-false _ _ _ (lt-leb x y l))
 
--- where one list has ended, the other follows
 union_none : (xs : List ℕ) → union xs [] ≡ xs ++ []
 union_none [] = refl
 union_none (x ∷ xs) = ap (λ v. x ∷ v) (union_none xs)
 
-pub union_ends : (xs ys : List ℕ) (i j : ℕ) → (length xs ≤ i) ⊎ (length ys ≤ j) → union (drop i xs) (drop j ys) ≡ drop i xs ++ drop j ys
-union_ends xs ys i j e = ⊎_elim
-    (λ h. let z = drop_all i xs h in ap (λ v. union v (drop j ys)) z ∙ ap (λ v. v ++ drop j ys) (sym z))
-    (λ h. let z = drop_all j ys h in ap (union (drop i xs)) z ∙ union_none (drop i xs) ∙ ap (λ v. drop i xs ++ v) (sym z))
-    e
+-- where one list has ended, the other follows
+union_ends : (xs ys : List ℕ) → (xs ≡ []) ⊎ (ys ≡ []) → union xs ys ≡ xs ++ ys
+union_ends xs ys e = ⊎_elim (λ h. rw h refl) (λ h. rw h (union_none xs)) e
+
+none_either : (b : Bool) → ◌≡◌ {A = Option ℕ} None (cond b None None)
+none_either true = refl
+none_either false = refl
+
+then_is : (b : Bool) (n : ℕ) → then_some b n ≡ cond b (Some n) None
+then_is true n = refl
+then_is false n = refl
+
+module _ (t : Tally) (w v xs ys : List ℕ) (n : Option ℕ) where
+  ends_none : due t (length w) (union xs ys) ≡ None → n ≡ None → Ends t w v xs ys n
+  ends_none h e = (
+    e ∙ none_either _ ∙ ap (λ k. cond ((t.plain || has (2 * t.pivot) xs) && (t.negated || has (2 * t.pivot + 1) ys)) k None) (sym h),
+    λ s. absurd (false≢true (ap is_some (sym e) ∙ s)),
+  )
+
+  pub next_stops : 0 < length xs → 0 < length ys → (m : ℕ) → m ≡ min (get_or xs 0 0) (get_or ys 0 0) → ((u : List ℕ) → due t (length w) (m ∷ u) ≡ None) → n ≡ None → Ends t w v xs ys n
+  next_stops some other m is h =
+      let u : List ℕ = union (cond (leb (get_or xs 0 0) (get_or ys 0 0)) (drop 1 xs) xs) (cond (leb (get_or ys 0 0) (get_or xs 0 0)) (drop 1 ys) ys) in
+      ends_none (ap (due t (length w)) (union_next xs ys some other ∙ ap (λ z. z ∷ u) (sym is)) ∙ h u)
+
+  module _ (one : (xs ≡ []) ⊎ (ys ≡ [])) where
+    pub first_stops : (w' : List ℕ) → Taken t true false w w' xs None → n ≡ None → Ends t w v xs ys n
+    first_stops w' h = ends_none (ap (due t (length w)) (union_ends xs ys one) ∙ h ys)
+
+    module _ (t₁ : Tally) (w₁ : List ℕ) (took : Took t t₁ true false w w₁ xs) where
+      due_second : due t (length w) (union xs ys) ≡ due t₁ (length w₁) (ys ++ [])
+      due_second = ap (due t (length w)) (union_ends xs ys one) ∙ took.ends ys ∙ ap (due t₁ (length w₁)) (sym (append-nil ys))
+
+      pub second_stops : (w' : List ℕ) → Taken t₁ false true w₁ w' ys None → n ≡ None → Ends t w v xs ys n
+      second_stops w' h = ends_none (due_second ∙ h [])
+
+      module _ (t₂ : Tally) (also : Took t₁ t₂ false true w₁ v ys) (within : t.count ≤ length w) where
+        found : (t₂.plain && t₂.negated) ≡ ((t.plain || has (2 * t.pivot) xs) && (t.negated || has (2 * t.pivot + 1) ys))
+        found =
+            let plain : t₂.plain ≡ (t.plain || has (2 * t.pivot) xs) = also.plain ∙ sym (none t₁.plain false) ∙ took.plain in
+            let negated : t₂.negated ≡ (t.negated || has (2 * t.pivot + 1) ys) =
+            also.negated
+            ∙ ap (λ p. t₁.negated || has (2 * p + 1) ys) took.pivot
+            ∙ ap (λ k. k || has (2 * t.pivot + 1) ys) (took.negated ∙ sym (none t.negated false)) in
+            rw (plain, negated) refl
+
+        ended_at : due t (length w) (union xs ys) ≡ Some t₂.count
+        ended_at =
+            let fits : t₂.count + 0 ≤ length v = omega (arith, also.fits (took.fits within)) in
+            let same : t₂.count + 0 ≡ t₂.count = omega arith in
+            due_second ∙ also.ends [] ∙ cond-true _ _ _ (le-leb _ _ fits) ∙ ap Some same
+
+        pub both_end : (b : Bool) → b ≡ (t₂.plain && t₂.negated) → n ≡ then_some b t₂.count → Ends t w v xs ys n
+        both_end b is e = (
+          e
+              ∙ then_is b t₂.count
+              ∙ ap (λ k. cond k (Some t₂.count) None) (is ∙ found)
+              ∙ ap (λ k. cond ((t.plain || has (2 * t.pivot) xs) && (t.negated || has (2 * t.pivot + 1) ys)) k None) (sym ended_at),
+          λ s. sym (ap (filled t w) (union_ends xs ys one) ∙ took.writes ys ∙ ap (filled t₁ w₁) (sym (append-nil ys)) ∙ also.writes []),
+        )

@@ -1,5 +1,5 @@
 -- Two clauses joined without a variable. Assumes nothing.
-use Rattle.std.specs.Prelude.{ℕ, ◌+◌, ◌*◌, ◌/◌, Bool, true, false, cond, ◌&&◌, List, [], ◌∷◌, ◌==◌, nat_lt}
+use Rattle.std.specs.Prelude.{ℕ, ◌+◌, ◌*◌, ◌/◌, min, Bool, true, false, cond, ◌&&◌, List, [], ◌∷◌, Some, None, Option, ◌==◌, nat_lt}
 
 -- a literal x before the union of what follows it with a list
 abbrev pub into : ℕ → (List ℕ → List ℕ) → List ℕ → List ℕ
@@ -10,6 +10,13 @@ into x more (y ∷ ys) = cond (nat_lt x y) (x ∷ more (y ∷ ys)) (cond (nat_lt
 abbrev pub union : List ℕ → List ℕ → List ℕ
 union [] ys = ys
 union (x ∷ xs) ys = into x (union xs) ys
+
+-- the lower of the literals that two lists begin with
+abbrev pub lowest : List ℕ → List ℕ → Option ℕ
+lowest [] [] = None
+lowest [] (y ∷ ys) = Some y
+lowest (x ∷ xs) [] = Some x
+lowest (x ∷ xs) (y ∷ ys) = Some (min x y)
 
 -- the literals of other variables than p
 abbrev pub without : ℕ → List ℕ → List ℕ

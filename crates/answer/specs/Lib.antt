@@ -6,5 +6,4 @@ pub mod Runs
 pub mod Derivations
 pub mod Layout
 pub mod Reasons
-pub mod Places
 pub mod Passes

@@ -16,12 +16,8 @@ fn first_non_bit(assignment: &[u32]) -> Option<u32>
     requires { length assignment.now ≤ 2 ^ 28 }
     ensures { result ≡ first_non_bit 0 assignment.now }
 {
-    for (variable, number) in assignment.iter().enumerate() {
-        if *number > 1 {
-            return Some(variable as u32);
-        }
-    }
-    None
+    let variable = assignment.iter().position(|number| *number > 1)?;
+    Some(variable as u32)
 }
 
 fn lowest_false_clause(question: &[u32], assignment: &[u32]) -> Option<u32>
@@ -29,12 +25,10 @@ fn lowest_false_clause(question: &[u32], assignment: &[u32]) -> Option<u32>
     requires short { length assignment.now ≤ 2 ^ 28 }
     ensures { result ≡ lowest_false question.now (bits_of assignment.now) 0 (clause_count question.now) }
 {
-    for k in 0..clause_count(question) {
-        if !satisfies_clause(assignment, part(question, 3 + k as usize)) {
-            return Some(k);
-        }
-    }
-    None
+    (0..clause_count(question)).find(|k| !satisfies_clause(
+        assignment,
+        part(question, 3 + *k as usize),
+    ))
 }
 
 // A refusal where something was found.

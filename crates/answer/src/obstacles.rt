@@ -1,55 +1,39 @@
 // Why a step that could not be carried out is refused. The step is read again, slowly: this happens once in a refutation.
 ghost use Rattle.std.specs.Prelude.{◌≡◌, ◌+◌};
-ghost use Rattle.answer.specs.Joint.{clashing, has, opposes};
-ghost use Rattle.answer.specs.Passes.{Gives, blamed};
+ghost use Rattle.answer.specs.Joint.{lowest, clashing, has, opposes};
+ghost use Rattle.answer.specs.Passes.{blamed};
 ghost use Rattle.answer.specs.Steps.{matched, suited, come_before};
 
 use crate::lines::{clause_at, clause_count};
-use crate::passes::{Next, lesser};
 use crate::steps::{Progress, Step, refusal};
 use sheet::fault::{Cause, Fault};
 
-// The next literal of two clauses in order, if one of them goes on.
-fn advance(first: &[u32], second: &[u32], i: usize, j: usize) -> Option<Next>
-    ensures { Gives first.now second.now i j result }
+// The lower of the literals that two clauses begin with.
+fn lowest(first: &[u32], second: &[u32]) -> Option<u32>
+    ensures { result ≡ lowest first.now second.now }
 {
-    if i >= first.len() {
-        if j >= second.len() {
-            return None;
-        }
-        return Some(Next {
-            literal: second[j],
-            i,
-            j: j + 1,
-        });
+    match (first, second) {
+        ([x, ..], [y, ..]) => Some(*x.min(y)),
+        ([x, ..], []) | ([], [x, ..]) => Some(*x),
+        ([], []) => None,
     }
-    if j >= second.len() {
-        return Some(Next {
-            literal: first[i],
-            i: i + 1,
-            j,
-        });
-    }
-    Some(lesser(first, second, i, j))
 }
 
 // Whether a variable comes twice in the two clauses joined without the pivot's variable.
-fn clash(first: &[u32], second: &[u32], pivot: u32) -> bool
+fn clash(mut first: &[u32], mut second: &[u32], pivot: u32) -> bool
     ensures { result ≡ clashing first.now second.now pivot }
 {
-    let mut i = 0;
-    let mut j = 0;
     let mut last = pivot;
-    while let Some(n) = advance(first, second, i, j) {
-        let variable = n.literal / 2;
+    while let Some(literal) = lowest(first, second) {
+        let variable = literal / 2;
         if variable != pivot {
             if variable == last {
                 return true;
             }
             last = variable;
         }
-        i = n.i;
-        j = n.j;
+        first = first.strip_prefix(&[literal]).unwrap_or(first);
+        second = second.strip_prefix(&[literal]).unwrap_or(second);
     }
     false
 }
@@ -57,12 +41,7 @@ fn clash(first: &[u32], second: &[u32], pivot: u32) -> bool
 fn has_literal(clause: &[u32], literal: u64) -> bool
     ensures { result ≡ has literal clause.now }
 {
-    for x in clause {
-        if u64::from(*x) == literal {
-            return true;
-        }
-    }
-    false
+    clause.iter().any(|x| u64::from(*x) == literal)
 }
 
 // Whether the pivot stands plain in the first clause and negated in the second.
@@ -101,7 +80,7 @@ fn check_step(question: &[u32], work: &[u32], s: Step, at: Progress) -> Result<(
     if !come_before(question, at.step, s) {
         return Err(refusal(Cause::LaterLine, at.step));
     }
-    let done = &work[0..at.end.min(work.len())];
+    let done = &work[..at.end.min(work.len())];
     check_clauses(
         clause_at(question, done, s.first),
         clause_at(question, done, s.second),

@@ -3,6 +3,7 @@ ghost use Rattle.std.specs.Prelude.{◌≡◌, ℕ, ◌+◌, ◌^◌, ◌<◌, �
 ghost use Rattle.sheet.specs.declared.fault.Cause.TheVariants.{Clash};
 ghost use Rattle.std.proofs.lemmas.List.Edits.{sets};
 ghost use Rattle.lists.specs.Counted.{counted, on_counted};
+ghost use Rattle.sheet.specs.Faults.{map_ok};
 ghost use Rattle.question.specs.Questions.{span, IsQuestion, Satisfiable};
 ghost use Rattle.answer.specs.Derivations.{Derives, Refutes, CancelsTwo};
 ghost use Rattle.answer.specs.Layout.{Lays};
@@ -11,7 +12,7 @@ ghost use Rattle.answer.specs.Reasons.{RefutationReasoned};
 ghost use Rattle.answer.specs.Runs.{start, run, outcome, verdict, left, checked, Held};
 ghost use Rattle.answer.specs.Steps.{step_count, step_of, refused, made_by, advanced, noted};
 
-use crate::lines::{locate, part};
+use crate::lines::{clause_at, part};
 use crate::obstacles::{blame, come_before};
 use crate::passes::join;
 use crate::steps::{Progress, Step, count_steps, read_step, refusal};
@@ -24,39 +25,34 @@ fn join_lines(question: &[u32], work: &mut [u32], s: Step, at: Progress) -> Opti
     ensures writes { is_some result ≡ true → work.new ≡ sets work.old at.end (made_by question.now work.old s at.end) }
     ensures keeps_the_front { take at.end work.new ≡ take at.end work.old }
 {
-    let end = at.end;
-    if !come_before(question, at.step, s) || end > work.len() {
+    if !come_before(question, at.step, s) {
         return None;
     }
-    let done = &work[0..end];
-    let first = locate(question, done, s.first);
-    let second = locate(question, done, s.second);
-    join(question, work, end, first, second, s.pivot)
+    let (done, free) = work.split_at_mut_checked(at.end)?;
+    let first = clause_at(question, done, s.first);
+    let second = clause_at(question, done, s.second);
+    let count = join(first, second, s.pivot, free)?;
+    Some(at.end + count)
 }
 
-// Carries out the next step: writes its clause, and the place where that ends.
+// Carries out the next step: writes its clause, and the place where that ends, which it answers.
 fn take_step(
     question: &[u32],
     refutation: &[u32],
     work: &mut [u32],
     at: Progress,
-) -> Result<Progress, Fault>
+) -> Result<usize, Fault>
     requires behind { at.step + 1 < at.end }
     requires few { length work.old ≤ 2 ^ 28 }
-    ensures goes_on { result ≡ advanced question.now work.old (step_of refutation.now at.step) at }
+    ensures goes_on { result ≡ map_ok (λ more. more.end) (advanced question.now work.old (step_of refutation.now at.step) at) }
     ensures writes { IfOk result (λ more. work.new ≡ noted question.now work.old (step_of refutation.now at.step) at) }
 {
     let s = read_step(refutation, at.step);
-    match join_lines(question, work, s, at) {
-        Some(end) => {
-            work[at.step as usize + 1] = end as u32;
-            Ok(Progress {
-                step: at.step + 1,
-                end,
-            })
-        }
-        None => Err(blame(question, work, s, at)),
-    }
+    let Some(end) = join_lines(question, work, s, at) else {
+        return Err(blame(question, work, s, at));
+    };
+    work[at.step as usize + 1] = end as u32;
+    Ok(end)
 }
 
 // Carries out all steps, into a working list that is zero but for its first place.
@@ -71,17 +67,15 @@ fn take_steps(
     ensures answers { result ≡ verdict (run question.now refutation.now steps work.old (start steps)) }
     ensures leaves { Held (run question.now refutation.now steps work.old (start steps)) work.new }
 {
-    let mut at = Progress {
-        step: 0,
-        end: steps as usize + 1,
-    };
-    while at.step < steps {
-        at = take_step(question, refutation, work, at)?;
+    let mut end = steps as usize + 1;
+    for step in 0..steps {
+        end = take_step(question, refutation, work, Progress { step, end })?;
     }
-    if part(work, at.step as usize - 1).is_empty() {
+    let last = steps - 1;
+    if part(work, last as usize).is_empty() {
         Ok(())
     } else {
-        Err(refusal(Cause::NotEmpty, at.step - 1))
+        Err(refusal(Cause::NotEmpty, last))
     }
 }
 
@@ -93,8 +87,8 @@ fn derive(question: &[u32], refutation: &[u32], work: &mut [u32]) -> Result<(), 
     ensures leaves { Held (outcome question.now refutation.now (length work.old)) work.new }
 {
     let steps = count_steps(refutation)?;
-    if !work.is_empty() {
-        work[0] = steps + 1;
+    if let Some(first) = work.first_mut() {
+        *first = steps + 1;
     }
     take_steps(question, refutation, work, steps)
 }

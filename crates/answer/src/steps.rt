@@ -41,7 +41,7 @@ pub(crate) fn count_steps(refutation: &[u32]) -> Result<u32, Fault>
     ensures { result ≡ demand (is_whole refutation.now) (refused NotWhole 0) (Ok (step_count refutation.now)) }
 {
     let steps = number_at(refutation, 0);
-    if steps >= 1 && steps <= 16_777_216 && 1 + 3 * steps as usize <= refutation.len() {
+    if (1..=16_777_216).contains(&steps) && 1 + 3 * steps as usize <= refutation.len() {
         Ok(steps)
     } else {
         Err(refusal(Cause::NotWhole, 0))

@@ -1,12 +1,10 @@
-use Rattle.std.proofs.Common.{rules}
-use Rattle.answer.proofs.Spans.{has_at, has_past, has_end}
+use Rattle.std.proofs.Common.{eqb, rules, tests, sym, ◌∙◌}
+use Rattle.std.proofs.lemmas.Iterator.{YieldsList-from_slice}
+use Rattle.std.proofs.lemmas.Iterator.Search.{any_from_yields_List}
+use Rattle.answer.proofs.Members.{has_is}
 use Rattle.answer.proofs.obstacles.has_literal.Goals as goal
 
-pub returns-then-from-literal : goal.returns-then-from-literal
-returns-then-from-literal c = search (rules, has_at)
-
-pub loop-x-preserved : goal.loop-x-preserved
-loop-x-preserved c = search (rules, has_past)
-
 pub returns : goal.returns
-returns c = search (rules, has_end)
+returns c =
+    any_from_yields_List (λ y. eqb y c.args.literal) _ _ _ c.any.ensures.ran (YieldsList-from_slice c.args.clause.now cc) (λ x b q k. search (rules, tests))
+    ∙ sym (has_is c.args.literal c.args.clause.now)
