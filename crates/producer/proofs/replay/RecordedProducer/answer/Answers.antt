@@ -1,4 +1,4 @@
-use Rattle.std.proofs.Common.{◌-◌, ◌<◌, ◌≤◌, get_or, arith}
+use Rattle.std.proofs.Common.{◌<◌, ◌≤◌, get_or, arith}
 use Rattle.producer.proofs.Replaying.{used_up, one_more}
 use Rattle.producer.proofs.Screening.{no_word}
 use Rattle.producer.proofs.replay.RecordedProducer.answer.Goals as goal
@@ -21,5 +21,5 @@ returns c =
       replies_as_it_may =
           one_more c.args.self.now.tape.now c.args.question.now c.args.answer.now c.args._work.now c.args.self.now.position
           c.counted-tape.result.now c.counted-tape.ensures.value c.variable_count.result c.variable_count.ensures.is_the_first_number
-          (c.counted_len-room.result - 0) (omega (arith, c.counted_len-room.ensures)) less c.recite.result c.recite.new.answer c.recite.ensures;
+          c.counted_len-room.result c.counted_len-room.ensures less c.recite.result c.recite.new.answer c.recite.ensures;
     }
