@@ -1,5 +1,5 @@
 -- The start and the end of a run. Assumes nothing.
-use Rattle.std.proofs.Common.{◌≡◌, ℕ, ◌+◌, ◌-◌, ◌*◌, ◌<◌, ◌≤◌, true, false, leb, List, [], ◌++◌, length, get_or, take, drop, set, replicate, None, sym, refl, ap, ◌∙◌, subst, arith, length-drop}
+use Rattle.std.proofs.Common.{◌≡◌, ℕ, ◌+◌, ◌-◌, ◌*◌, ◌^◌, ◌<◌, ◌≤◌, true, false, leb, List, [], ◌++◌, length, get_or, take, drop, set, replicate, None, sym, refl, ap, ◌∙◌, subst, arith, length-drop}
 use borrow.Rule.Slice.PartMut.{put_mid}
 use Rattle.std.proofs.lemmas.List.{length-take-le, length-append, length-replicate, get_or_append_left, get_or-replicate, take_at, drop_at, drop_all, append-nil}
 use Rattle.std.proofs.lemmas.Bool.{cond-true, cond-false, and_parts, leb-true}
@@ -10,6 +10,8 @@ use Rattle.producer.specs.declared.split.Move.{Move}
 use Rattle.producer.specs.declared.split.Move.TheVariants.{Done}
 use Rattle.question.specs.Questions.{variable_count, clause_count}
 use Rattle.producer.specs.Procedure.{End, Found, Long, split, roomy, decided, laid, reply_at, answer_at, splitting}
+use Rattle.lists.specs.Counted.{counted}
+use Rattle.producer.proofs.Scans.{whole_counts}
 use Rattle.producer.proofs.Stacks.{rows_fit, row_low}
 use Rattle.producer.specs.Machine.{Stood, Moved, finished}
 
@@ -42,18 +44,20 @@ pub moved_at : (q : List ℕ) (v : ℕ) (w x a b : List ℕ) (s : State) (all : 
 moved_at q v w x a b s all r n e st h = subst (λ k. Moved q k v w x b s all r) e (h all (subst (λ k. Stood q k v w a s all) (sym e) st))
 
 -- ---- the row of values, with 2 in it
-pub refilled : (w f : List ℕ) (v : ℕ) → v ≤ length w → f ≡ replicate (length (take (v - 0) w)) 2 →
-    (length (f ++ drop (v - 0) w) ≡ length w) × ((i : ℕ) → i < v → get_or (f ++ drop (v - 0) w) i 0 ≡ 2)
+pub refilled : (w f : List ℕ) (v : ℕ) → v ≤ length w → f ≡ replicate (length (take v w)) 2 →
+    (length (f ++ drop v w) ≡ length w) × ((i : ℕ) → i < v → get_or (f ++ drop v w) i 0 ≡ 2)
 refilled w f v long is =
-    let z : v - 0 ≡ v = omega arith in
-    let size : length (take (v - 0) w) ≡ v = length-take-le (v - 0) w (omega arith) ∙ z in
-    let all : length f ≡ v = ap length is ∙ length-replicate (length (take (v - 0) w)) 2 ∙ size in (
-      omega (arith, length-append f (drop (v - 0) w), length-drop (v - 0) w),
-      λ i l. get_or_append_left f (drop (v - 0) w) 0 i (omega arith) ∙ ap (λ u. get_or u i 0) is ∙ get_or-replicate (length (take (v - 0) w)) i 2 0 (omega arith),
+    let size : length (take v w) ≡ v = length-take-le v w long in
+    let all : length f ≡ v = ap length is ∙ length-replicate (length (take v w)) 2 ∙ size in (
+      omega (arith, length-append f (drop v w), length-drop v w),
+      λ i l. get_or_append_left f (drop v w) 0 i (omega arith) ∙ ap (λ u. get_or u i 0) is ∙ get_or-replicate (length (take v w)) i 2 0 (omega arith),
     )
 
-pub roomy_long : (q : List ℕ) (n m : ℕ) → roomy q n m ≡ true → variable_count q ≤ m
-roomy_long q n m h = let v = variable_count q in omega (arith, (roomy_parts q n m h).1, rows_fit v, row_low v v)
+-- where there is room to begin, the row of values lies in the working list
+pub values_fit : (q : List ℕ) (n m v : ℕ) → length q ≤ 2 ^ 28 → v ≡ variable_count (counted q) → roomy q n m ≡ true → (v ≡ variable_count q) × (v ≤ m)
+values_fit q n m v size is room =
+    let all : v ≡ variable_count q = is ∙ (whole_counts q size).0 in
+    (all, omega (arith, (roomy_parts q n m room).1, rows_fit v, row_low v v))
 
 -- ---- the whole, from its parts
 module _ (q : List ℕ) (n m : ℕ) where

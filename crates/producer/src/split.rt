@@ -6,11 +6,11 @@ ghost use Rattle.producer.specs.Machine.{Stood, Moved, Ready, finished};
 ghost use Rattle.producer.specs.Procedure.{End, Found, fits, put, split, roomy, reply_at, answer_at, splitting, splits};
 
 use crate::interface::{Producer, Reply};
-use crate::reading::{count_clauses, find_false};
+use crate::reading::find_false;
 use crate::rows::{mark_line, pop, push, row};
 use answer::steps::Step;
 use lists::{counted, counted_len};
-use question::read::number_at;
+use question::read::{clause_count, variable_count};
 
 // Where the procedure stands: how many variables are set, how many steps are made, and the line that ends the branch, if one
 // does.
@@ -118,7 +118,7 @@ fn ascend(
     Move::On(State {
         depth: d,
         steps: at.steps + 1,
-        line: Some(count_clauses(question) + at.steps),
+        line: Some(clause_count(question) + at.steps),
     })
 }
 
@@ -188,13 +188,14 @@ fn run(question: &[u32], answer: &mut [u32], work: &mut [u32], v: u32) -> Reply
 
 // Whether the lists have room to begin.
 fn is_roomy(question: &[u32], places: usize, room: usize) -> bool
+    requires { length question.now ≤ 2 ^ 28 }
     ensures { result ≡ roomy question.now places room }
 {
-    let v = number_at(question, 0);
+    let v = variable_count(question);
     let side = u128::from(v) + 4;
     v as usize <= places
         && side * side <= room as u128
-        && count_clauses(question) as usize <= question.len()
+        && clause_count(question) as usize <= question.len()
 }
 
 // Splits where there is room to begin, with an answer list that is zero.
@@ -208,8 +209,8 @@ fn attempt(question: &[u32], answer: &mut [u32], work: &mut [u32]) -> Reply
     if !is_roomy(question, answer.len(), work.len()) {
         return Reply::TooLong;
     }
-    let v = number_at(question, 0);
-    work[0..v as usize].fill(2);
+    let v = variable_count(question);
+    work[..v as usize].fill(2);
     run(question, answer, work, v)
 }
 

@@ -4,6 +4,7 @@ use Rattle.producer.specs.declared.split.Move.TheVariants.{On}
 use Rattle.producer.specs.Machine.{Moved}
 use Rattle.producer.specs.Procedure.{put}
 use Rattle.producer.proofs.Stacks.{rows_fit, row_low}
+use Rattle.producer.proofs.Scans.{whole_counts}
 use Rattle.producer.proofs.Telling.{fits_true}
 use Rattle.producer.proofs.Moving.{move_done, move_lacks, move_retry, move_long, move_step}
 use Rattle.producer.proofs.split.ascend.Goals as goal
@@ -61,9 +62,12 @@ returns c = λ all some st.
     let d = s.depth - 1 in
     let next : d + 1 ≡ s.depth = omega arith in
     let f = sym c.has_room.ensures ∙ c.if-not-has_room.false in
-    subst (λ u. Moved q n c.args.v w c.pop-first.new.work c.put_step.new.answer s all (On (record { depth = d; steps = s.steps + 1; line = Some (u + s.steps) }))) (sym c.count_clauses.ensures)
+    subst (λ u. Moved q n c.args.v w c.pop-first.new.work c.put_step.new.answer s all (On (record { depth = d; steps = s.steps + 1; line = Some (u + s.steps) }))) (sym (c.clause_count.ensures.is_the_second_number ∙ (whole_counts q c.requires.size).1))
     (move_step q n c.args.v w c.args.answer.now s all c.args.line some c.requires.under c.requires.short st d next
     (subst (λ r. get_or w (r + d) 0 ≡ 0 → ⊥) c.row-marks.ensures c.if-work-marks-eq0.false)
     c.if-work-d-eq0.false f c.pop-first.new.work c.pop-first.ensures.unset c.pop-first.ensures.joined c.put_step.new.answer
     (c.put_step.ensures ∙ ap (λ u. put c.args.answer.now s.steps (record { first = u; second = c.args.line; pivot = d })) c.pop-first.ensures.line)
     (fits_true n s.steps f).0)
+
+pub overflow_add-result-2 : goal.overflow_add-result-2
+overflow_add-result-2 c = omega (arith, (whole_counts c.args.question.now c.requires.size).1)
