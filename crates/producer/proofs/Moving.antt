@@ -133,13 +133,6 @@ module _ (q : List ℕ) (n v : ℕ) (w a : List ℕ) (s : State) (all : End) (k 
   abbrev ends : Going q n v w st.stack st.made all (Some k)
   ends = subst (Going q n v w st.stack st.made all) some st.going
 
-  refuted : (fs : List Frame) → 0 ≡ length fs → (c : List ℕ) → resume q n v fs (Closed k c st.made) ≡ all → all ≡ Closed k c st.made
-  refuted [] z c e = sym e
-  refuted (f ∷ fs) z c e = absurd (omega arith)
-
-  pub move_done : s.depth ≡ 0 → Moved q n v w w a s all (Break Refutation)
-  move_done z = (k, ends.0, st.made, refuted st.stack (sym z ∙ st.depth_is) ends.0 ends.2, st.lies, st.steps_are)
-
   module _ (d : ℕ) (next : d + 1 ≡ s.depth) where
     quiet : ahead v s.depth s.line ≡ 0
     quiet = ap (ahead v s.depth) some
