@@ -1,14 +1,14 @@
 -- The start and the end of a run. Assumes nothing.
-use Rattle.std.proofs.Common.{◌≡◌, ℕ, ◌+◌, ◌-◌, ◌*◌, ◌^◌, ◌<◌, ◌≤◌, true, false, leb, List, [], ◌++◌, length, get_or, take, drop, set, replicate, None, sym, ap, ◌∙◌, subst, arith, length-drop}
+use Rattle.std.proofs.Common.{◌≡◌, ℕ, ◌+◌, ◌-◌, ◌*◌, ◌^◌, ◌<◌, ◌≤◌, true, leb, List, [], ◌++◌, length, get_or, take, drop, set, replicate, None, sym, ap, ◌∙◌, subst, arith, length-drop}
 use Rattle.std.proofs.lemmas.List.{length-take-le, length-append, length-replicate, get_or_append_left, get_or-replicate}
-use Rattle.std.proofs.lemmas.Bool.{cond-true, cond-false, and_parts, leb-true}
+use Rattle.std.proofs.lemmas.Bool.{cond-true, and_parts, leb-true}
 use Rattle.producer.specs.declared.interface.Reply.{Reply}
 use Rattle.producer.specs.declared.interface.Reply.TheVariants.{Assignment, Refutation, TooLong}
 use Rattle.producer.specs.declared.split.State.{State}
 use Rattle.std.specs.declared.ops.ControlFlow.{ControlFlow}
 use Rattle.std.specs.declared.ops.ControlFlow.TheVariants.{Break}
 use Rattle.question.specs.Questions.{variable_count, clause_count}
-use Rattle.producer.specs.Procedure.{End, Found, Long, split, roomy, decided, laid, reply_at, answer_at, splitting}
+use Rattle.producer.specs.Procedure.{End, Found, split, roomy, decided, laid, reply_at, answer_at, splitting}
 use Rattle.lists.specs.Counted.{counted}
 use Rattle.producer.proofs.Scans.{whole_counts}
 use Rattle.producer.proofs.Stacks.{rows_fit, row_low}
@@ -75,15 +75,3 @@ module _ (q : List ℕ) (n m : ℕ) where
   begun r a v all room replies answers =
       let same : split q n v [] [] ≡ decided q n m = ap (λ k. split q n k [] []) all ∙ sym (cond-true _ _ _ room) in
       (replies ∙ ap reply_at same, answers ∙ ap (answer_at n) same)
-
-  pub not_begun : (a : List ℕ) → a ≡ replicate n 0 → roomy q n m ≡ false → (TooLong ≡ (splitting q n m).0) × (a ≡ (splitting q n m).1)
-  not_begun a blank scant =
-      let long : decided q n m ≡ Long = cond-false _ _ _ scant in
-      (sym (ap reply_at long), blank ∙ sym (ap (answer_at n) long))
-
-  pub all_told : (r : Reply) (a w : List ℕ) (n' m' : ℕ) → n' ≡ n → m' ≡ m → r ≡ (splitting q n' m).0 → a ≡ (splitting q n' m).1 → w ≡ replicate m' 0 → (r, a, w) ≡ splitting q n m
-  all_told r a w n' m' en em one two three =
-      let r_is : r ≡ (splitting q n m).0 = one ∙ ap (λ k. (splitting q k m).0) en in
-      let a_is : a ≡ (splitting q n m).1 = two ∙ ap (λ k. (splitting q k m).1) en in
-      let w_is : w ≡ replicate m 0 = three ∙ ap (λ k. replicate k 0) em in
-      ap (λ u. (u, a, w)) r_is ∙ ap (λ u. ((splitting q n m).0, u, w)) a_is ∙ ap (λ u. ((splitting q n m).0, (splitting q n m).1, u)) w_is

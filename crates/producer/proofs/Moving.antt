@@ -5,7 +5,7 @@ use Rattle.std.proofs.lemmas.Bool.{cond-true, cond-false, cases_eq}
 use Rattle.answer.specs.declared.steps.Step.{Step}
 use Rattle.producer.specs.declared.split.State.{State}
 use Rattle.std.specs.declared.ops.ControlFlow.TheVariants.{Continue, Break}
-use Rattle.producer.specs.declared.interface.Reply.TheVariants.{Assignment, Refutation, TooLong}
+use Rattle.producer.specs.declared.interface.Reply.TheVariants.{Assignment, TooLong}
 use Rattle.question.specs.Questions.{clause_count, clause_of}
 use Rattle.answer.specs.Joint.{joint}
 use Rattle.producer.specs.Procedure.{mentions, lowest, lowest_at, End, Found, Closed, Long, fits, resolved, after_zero, closing, split, put}

@@ -1,14 +1,8 @@
 use Rattle.std.proofs.Common.{◌≡◌, true, length, sym, ap, ◌∙◌, arith}
 use Rattle.std.proofs.lemmas.List.{length-take-le}
 use Rattle.producer.specs.Procedure.{roomy}
-use Rattle.producer.proofs.Ending.{refilled, values_fit, begun, not_begun}
+use Rattle.producer.proofs.Ending.{refilled, values_fit, begun}
 use Rattle.producer.proofs.split.attempt.Goals as goal
-
-pub returns-then-not-is_roomy : goal.returns-then-not-is_roomy
-returns-then-not-is_roomy c =
-    let k = not_begun c.args.question.now (length c.args.answer.now) (length c.args.work.now) c.args.answer.now c.requires.blank
-    (sym c.is_roomy.ensures ∙ c.if-not-is_roomy.true) in
-    record { replies = k.0; answers = k.1 }
 
 pub slice_bounds-fill-end : goal.slice_bounds-fill-end
 slice_bounds-fill-end c =
