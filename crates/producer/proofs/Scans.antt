@@ -1,4 +1,4 @@
--- Steps of the loops that read clauses. Assumes nothing.
+-- Clauses of a question in full, and which of them ends a branch. Assumes nothing.
 use Rattle.std.specs.List.{find, range_with_len}
 use Rattle.std.proofs.Common.{zero, ◌≡◌, ℕ, suc, ◌+◌, ◌^◌, ◌≤◌, Bool, true, false, cond, not, ◌&&◌, List, length, Some, sym, refl, ap, ◌∙◌, arith}
 use Rattle.lists.specs.Counted.{counted}

@@ -1,4 +1,4 @@
-// Reading numbers and clauses where they lie. Every place counts.
+// Which clause of a question ends a branch. Every place counts.
 ghost use Rattle.std.specs.Prelude.{◌≡◌, ◌^◌, ◌≤◌, length};
 ghost use Rattle.question.specs.Questions.{clause_count, clause_of};
 ghost use Rattle.producer.specs.Procedure.{is_due, closes, lowest};
