@@ -4,8 +4,8 @@ use Rattle.std.proofs.lemmas.List.{get_or-set_same, get_or-set_other}
 use Rattle.std.proofs.lemmas.Bool.{cond-true, cond-false, cases_eq}
 use Rattle.answer.specs.declared.steps.Step.{Step}
 use Rattle.producer.specs.declared.split.State.{State}
-use Rattle.producer.specs.declared.split.Move.TheVariants.{On, Done}
-use Rattle.producer.specs.declared.interface.Reply.TheVariants.{Assignment, Refutation, TooLong}
+use Rattle.std.specs.declared.ops.ControlFlow.TheVariants.{Continue, Break}
+use Rattle.producer.specs.declared.interface.Reply.TheVariants.{Assignment, TooLong}
 use Rattle.question.specs.Questions.{clause_count, clause_of}
 use Rattle.answer.specs.Joint.{joint}
 use Rattle.producer.specs.Procedure.{mentions, lowest, lowest_at, End, Found, Closed, Long, fits, resolved, after_zero, closing, split, put}
@@ -64,7 +64,7 @@ module _ (q : List ℕ) (n v : ℕ) (w a : List ℕ) (s : State) (all : End) (no
       ∙ ap (λ d. lowest q (take v w) d (clause_count q) 0) (length_values fs ∙ sym is)
       ∙ sym e
 
-  pub move_closed : (x : List ℕ) (k : ℕ) → s.steps ≤ 16777216 → Some k ≡ lowest q (take v w) s.depth (clause_count q) 0 → Row v x ((v + 2) * v) (clause_of q k) → ((i : ℕ) → i < (v + 2) * v → get_or x i 0 ≡ get_or w i 0) → Moved q n v w x a s all (On (record { depth = s.depth; steps = s.steps; line = Some k }))
+  pub move_closed : (x : List ℕ) (k : ℕ) → s.steps ≤ 16777216 → Some k ≡ lowest q (take v w) s.depth (clause_count q) 0 → Row v x ((v + 2) * v) (clause_of q k) → ((i : ℕ) → i < (v + 2) * v → get_or x i 0 ≡ get_or w i 0) → Moved q n v w x a s all (Continue (record { depth = s.depth; steps = s.steps; line = Some k }))
   move_closed x k short e row kept =
       let d : ℕ = s.depth in
       let g : Agree v d w x = agree_from v d w x under kept in
@@ -86,13 +86,13 @@ module _ (q : List ℕ) (n v : ℕ) (w a : List ℕ) (s : State) (all : End) (no
         short,
       )
 
-  pub move_found : None ≡ lowest q (take v w) s.depth (clause_count q) 0 → s.depth ≡ v → Moved q n v w w a s all (Done Assignment)
+  pub move_found : None ≡ lowest q (take v w) s.depth (clause_count q) 0 → s.depth ≡ v → Moved q n v w w a s all (Break Assignment)
   move_found e full =
       let z : v - length fs ≡ 0 = omega (arith, st.depth_is) in
       sym go ∙ ap (resume q n v fs) (split_found q n (v - length fs) (values fs) st.made z (lowest_is None e)) ∙ resume_found q n v fs (values fs)
       ∙ ap Found (sym set_so_far ∙ ap (λ d. take d w) full)
 
-  pub move_open : None ≡ lowest q (take v w) s.depth (clause_count q) 0 → s.depth < v → s.steps ≤ 16777216 → Moved q n v w (set w s.depth 0) a s all (On (record { depth = s.depth + 1; steps = s.steps; line = None }))
+  pub move_open : None ≡ lowest q (take v w) s.depth (clause_count q) 0 → s.depth < v → s.steps ≤ 16777216 → Moved q n v w (set w s.depth 0) a s all (Continue (record { depth = s.depth + 1; steps = s.steps; line = None }))
   move_open e less short =
       let d : ℕ = s.depth in
       let x : List ℕ = set w d 0 in
@@ -133,13 +133,6 @@ module _ (q : List ℕ) (n v : ℕ) (w a : List ℕ) (s : State) (all : End) (k 
   abbrev ends : Going q n v w st.stack st.made all (Some k)
   ends = subst (Going q n v w st.stack st.made all) some st.going
 
-  refuted : (fs : List Frame) → 0 ≡ length fs → (c : List ℕ) → resume q n v fs (Closed k c st.made) ≡ all → all ≡ Closed k c st.made
-  refuted [] z c e = sym e
-  refuted (f ∷ fs) z c e = absurd (omega arith)
-
-  pub move_done : s.depth ≡ 0 → Moved q n v w w a s all (Done Refutation)
-  move_done z = (k, ends.0, st.made, refuted st.stack (sym z ∙ st.depth_is) ends.0 ends.2, st.lies, st.steps_are)
-
   module _ (d : ℕ) (next : d + 1 ≡ s.depth) where
     quiet : ahead v s.depth s.line ≡ 0
     quiet = ap (ahead v s.depth) some
@@ -178,7 +171,7 @@ module _ (q : List ℕ) (n v : ℕ) (w a : List ℕ) (s : State) (all : End) (k 
           }
 
       pub move_lacks : ((i : ℕ) → i < v → get_or x ((v + 2) * v + i) 0 ≡ get_or w ((v + 2) * v + i) 0) → get_or w ((v + 2) * v + d) 0 ≡ 0 →
-          Moved q n v w x a s all (On (record { depth = d; steps = s.steps; line = Some k }))
+          Moved q n v w x a s all (Continue (record { depth = d; steps = s.steps; line = Some k }))
       move_lacks same z =
           let l = fewer in
           let y = quiet in (
@@ -215,7 +208,7 @@ module _ (q : List ℕ) (n v : ℕ) (w a : List ℕ) (s : State) (all : End) (k 
             going = sym (resume_retry q n v fs k c st.made (mentions_it fs is c row)) ∙ e;
           }
 
-      pub move_retry : get_or w d 0 ≡ 0 → (x : List ℕ) → Turned v d k w x → Moved q n v w x a s all (On (record { depth = s.depth; steps = s.steps; line = None }))
+      pub move_retry : get_or w d 0 ≡ 0 → (x : List ℕ) → Turned v d k w x → Moved q n v w x a s all (Continue (record { depth = s.depth; steps = s.steps; line = None }))
       move_retry z x t =
           let y = quiet in
           let o : owed v x d ≡ owed v w d = owed_same v w x d t.below.values_same in
@@ -233,7 +226,7 @@ module _ (q : List ℕ) (n v : ℕ) (w a : List ℕ) (s : State) (all : End) (k 
             let is : d ≡ length fs = omega arith in
             sym (sym (resume_long q n v fs) ∙ ap (resume q n v fs) (sym (cond-false _ _ _ (ap (fits n) (sym st.steps_are) ∙ f))) ∙ sym (resume_step q n v fs j b k c st.made (mentions_it fs is c row)) ∙ e)
 
-        pub move_long : fits n s.steps ≡ false → Moved q n v w w a s all (Done TooLong)
+        pub move_long : fits n s.steps ≡ false → Moved q n v w w a s all (Break TooLong)
         move_long f = over_long st.stack (next ∙ st.depth_is) st.holds ends.0 ends.1 ends.2 f
 
         module _ (f : fits n s.steps ≡ true) (x : List ℕ) (u : Unset v d w x) (joined : Joined v d w x)
@@ -272,7 +265,7 @@ module _ (q : List ℕ) (n v : ℕ) (w a : List ℕ) (s : State) (all : End) (k 
                 );
               }
 
-          pub move_step : s.steps + 1 ≤ 16777216 → Moved q n v w x b s all (On (record { depth = d; steps = s.steps + 1; line = Some (clause_count q + s.steps) }))
+          pub move_step : s.steps + 1 ≤ 16777216 → Moved q n v w x b s all (Continue (record { depth = d; steps = s.steps + 1; line = Some (clause_count q + s.steps) }))
           move_step more =
               let y = quiet in
               let l = fewer x u in

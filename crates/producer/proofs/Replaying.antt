@@ -1,6 +1,6 @@
 -- A call of a recording, from what is done with the places that count. Assumes nothing.
-use Rattle.std.proofs.Common.{◌≡◌, ℕ, ◌+◌, ◌-◌, ◌^◌, ◌<◌, ◌≤◌, min, List, ◌++◌, length, get_or, take, drop, replicate, sym, ap, ◌∙◌, arith}
-use Rattle.std.proofs.lemmas.List.{take-append-drop, drop-replicate}
+use Rattle.std.proofs.Common.{◌≡◌, ℕ, ◌+◌, ◌^◌, ◌<◌, ◌≤◌, min, List, ◌++◌, length, get_or, take, drop, sym, ap, ◌∙◌}
+use Rattle.std.proofs.lemmas.List.{take-append-drop}
 use Rattle.std.proofs.lemmas.Bool.{cond-true, cond-false, lt-ltb, le-ltb}
 use Rattle.lists.specs.Counted.{counted}
 use Rattle.lists.proofs.Taken.{take_min, drop_min}
@@ -8,15 +8,6 @@ use Rattle.question.specs.Questions.{variable_count}
 use Rattle.producer.specs.Recording.{recited, replay}
 use Rattle.producer.specs.declared.interface.Reply.{Reply}
 use Rattle.producer.specs.declared.interface.Reply.TheVariants.{TooLong}
-
-pub body_written : (tape copied filled : List ℕ) (place size n : ℕ) → copied ≡ take (place + size - place) (drop place tape) → filled ≡ replicate n 0 →
-    copied ++ drop (size - 0) filled ≡ take size (drop place tape) ++ replicate (n - size) 0
-body_written tape copied filled place size n is none =
-    let all : place + size - place ≡ size = omega arith in
-    let same : size - 0 ≡ size = omega arith in
-    ap (λ u. u ++ drop (size - 0) filled) (is ∙ ap (λ (k : ℕ). take k (drop place tape)) all)
-    ∙ ap (λ (k : ℕ). take size (drop place tape) ++ drop k filled) same
-    ∙ ap (λ u. take size (drop place tape) ++ u) (ap (drop size) none ∙ drop-replicate size n 0)
 
 module _ (tape q a w : List ℕ) (i : ℕ) (t : List ℕ) (same : t ≡ counted tape) where
   -- the list of a call, from the reply, what counts of the answer list, and the position

@@ -158,9 +158,3 @@ module _ (v : ℕ) (w : List ℕ) (d : ℕ) where
 
 pub cost_next : (v d : ℕ) → d < v → cost (v - d) ≡ 2 * cost (v - (d + 1)) + 3
 cost_next v d h = let m : v - d ≡ suc (v - (d + 1)) = omega arith in rw m
-
-pub row_fits : (v i : ℕ) → i ≤ v + 2 → v ≤ 4294967295 → i * v ≤ 18446744073709551615
-row_fits v i h k =
-    let a = mul-le-mul_right {m = i} {n = v + 2} v h in
-    let b = mul-le-mul_right {m = v + 2} {n = 4294967297} v (omega arith) in
-    omega (arith, a, b)

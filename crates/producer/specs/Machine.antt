@@ -4,8 +4,8 @@ use Rattle.producer.specs.declared.interface.Reply.{Reply}
 use Rattle.producer.specs.declared.interface.Reply.TheVariants.{Assignment, Refutation, TooLong}
 use Rattle.answer.specs.declared.steps.Step.{Step}
 use Rattle.producer.specs.declared.split.State.{State}
-use Rattle.producer.specs.declared.split.Move.{Move}
-use Rattle.producer.specs.declared.split.Move.TheVariants.{On, Done}
+use Rattle.std.specs.declared.ops.ControlFlow.{ControlFlow}
+use Rattle.std.specs.declared.ops.ControlFlow.TheVariants.{Continue, Break}
 use Rattle.question.specs.Questions.{clause_count}
 use Rattle.producer.specs.Procedure.{mentions, End, Found, Closed, Long, after_one, after_zero, split, laid, answer_at}
 
@@ -100,12 +100,12 @@ ahead v d (Some k) = 0
 abbrev pub turns : ℕ → List ℕ → State → ℕ
 turns v w s = owed v w s.depth + ahead v s.depth s.line
 
--- one turn of the machine
-abbrev pub Moved : List ℕ → ℕ → ℕ → List ℕ → List ℕ → List ℕ → State → End → Move → Type 0
-Moved q n v w x b s all (On t) = Stood q n v x b t all × (turns v x t < turns v w s) × (t.depth ≤ v) × (t.steps ≤ 16777216)
-Moved q n v w x b s all (Done Assignment) = all ≡ Found (take v x)
-Moved q n v w x b s all (Done Refutation) = (k : ℕ) × (c : List ℕ) × (ss : List Step) × (all ≡ Closed k c ss) × (b ≡ laid n ss) × (s.steps ≡ length ss)
-Moved q n v w x b s all (Done TooLong) = all ≡ Long
+-- one turn of the machine: where it stands then, or what it replies
+abbrev pub Moved : List ℕ → ℕ → ℕ → List ℕ → List ℕ → List ℕ → State → End → ControlFlow Reply State → Type 0
+Moved q n v w x b s all (Continue t) = Stood q n v x b t all × (turns v x t < turns v w s) × (t.depth ≤ v) × (t.steps ≤ 16777216)
+Moved q n v w x b s all (Break Assignment) = all ≡ Found (take v x)
+Moved q n v w x b s all (Break Refutation) = (k : ℕ) × (c : List ℕ) × (ss : List Step) × (all ≡ Closed k c ss) × (b ≡ laid n ss) × (s.steps ≡ length ss)
+Moved q n v w x b s all (Break TooLong) = all ≡ Long
 
 -- what a turn can count on
 pub record Ready (q : List ℕ) (v : ℕ) (w : List ℕ) (s : State) : Type 0 where

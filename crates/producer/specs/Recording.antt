@@ -4,9 +4,13 @@ use Rattle.lists.specs.Counted.{counted, uncounted}
 use Rattle.question.specs.Questions.{variable_count}
 use Rattle.producer.specs.declared.interface.Reply.{Reply}
 use Rattle.producer.specs.declared.interface.Reply.TheVariants.{Assignment, Refutation, TooLong}
-use Rattle.producer.specs.declared.replay.Header.{Header}
 
--- record i: its kind, the place of its body and how long that is
+-- the three numbers of a record: its kind, the place of its body and how long that is
+pub record Header : Type 0 where
+  pub kind : ℕ
+  pub place : ℕ
+  pub size : ℕ
+
 abbrev pub header_at : List ℕ → ℕ → Header
 header_at tape i = record { kind = slice_index tape (3 * i + 1); place = slice_index tape (3 * i + 2); size = slice_index tape (3 * i + 3) }
 
@@ -23,9 +27,12 @@ is_sound tape i v room =
 abbrev pub reply_of : Header → Reply
 reply_of r = cond (r.kind == 0) Assignment Refutation
 
+abbrev pub body_of : List ℕ → Header → List ℕ
+body_of tape r = take r.size (drop r.place tape)
+
 -- a body, and zeros behind it, in a list of n places
 abbrev pub body_in : List ℕ → Header → ℕ → List ℕ
-body_in tape r n = take r.size (drop r.place tape) ++ replicate (n - r.size) 0
+body_in tape r n = body_of tape r ++ replicate (n - r.size) 0
 
 -- what record i answers: the reply, and the answer list
 abbrev pub recited : List ℕ → ℕ → ℕ → List ℕ → Reply × List ℕ

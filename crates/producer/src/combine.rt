@@ -15,7 +15,7 @@ use question::read::variable_count;
 fn front(list: &[u32], size: u32) -> &[u32]
     ensures { result.now ≡ take size list.now }
 {
-    &list[0..list.len().min(size as usize)]
+    list.get(..size as usize).unwrap_or(list)
 }
 
 // Whether an assignment in the first places of the answer list satisfies the question.

@@ -1,84 +1,42 @@
 // Answers that were written down.
-ghost use Rattle.std.specs.Prelude.{◌≡◌, ◌+◌, ◌*◌, ◌≤◌, false, length};
+ghost use Rattle.std.specs.Prelude.{◌≡◌, ◌+◌, false, is_some, IfSome};
 ghost use Rattle.lists.specs.Counted.{counted};
-ghost use Rattle.producer.specs.Recording.{header_at, is_kind, is_sound, reply_of, body_in, recited, replay};
+ghost use Rattle.producer.specs.Recording.{header_at, is_sound, reply_of, body_of, recited, replay};
 
 use crate::interface::{Producer, Reply};
 use lists::{counted, counted_len};
 use question::read::{number_at, variable_count};
 
-// Three numbers of a record: 0 for an assignment or 1 for a refutation, and where the body lies in the recording.
-#[derive(Clone, Copy)]
-pub(crate) struct Header {
-    pub kind: u32,
-    pub place: u32,
-    pub size: u32,
-}
-
-fn read_header(tape: &[u32], i: u32) -> Header
-    ensures { result ≡ header_at tape.now i }
+// The reply of record `i` and its body, if both lie in the recording and the body is right for the question and the room. A
+// record is three numbers: 0 for an assignment or 1 for a refutation, where the body lies, and how long it is.
+fn read_record(tape: &[u32], i: u32, variables: u32, room: usize) -> Option<(Reply, &[u32])>
+    ensures if_sound { is_some result ≡ is_sound tape.now i variables room }
+    ensures reads { IfSome result (λ r. (r.0 ≡ reply_of (header_at tape.now i)) × (r.1.now ≡ body_of tape.now (header_at tape.now i))) }
 {
-    let before = 3 * i as usize;
-    Header {
-        kind: number_at(tape, before + 1),
-        place: number_at(tape, before + 2),
-        size: number_at(tape, before + 3),
+    let numbers = tape.get(3 * i as usize + 1..)?;
+    let [kind, place, size] = *numbers.first_chunk::<3>()?;
+    let start = place as usize;
+    let body = tape.get(start..start + size as usize)?;
+    if body.len() > room {
+        return None;
+    }
+    match kind {
+        0 if size == variables => Some((Reply::Assignment, body)),
+        1 => Some((Reply::Refutation, body)),
+        _ => None,
     }
 }
 
-fn is_kind(variables: u32, header: Header) -> bool
-    ensures { result ≡ is_kind variables header }
-{
-    match header.kind {
-        0 => header.size == variables,
-        kind => kind == 1,
-    }
-}
-
-// Whether a record and its body lie in the recording, and the body is right for the question and the room.
-fn is_sound(tape: &[u32], i: u32, variables: u32, room: usize) -> bool
-    ensures { result ≡ is_sound tape.now i variables room }
-{
-    let header = read_header(tape, i);
-    let end = header.place as usize + header.size as usize;
-    3 * i as usize + 4 <= tape.len()
-        && end <= tape.len()
-        && header.size as usize <= room
-        && is_kind(variables, header)
-}
-
-fn reply_of(header: Header) -> Reply
-    ensures { result ≡ reply_of header }
-{
-    if header.kind == 0 {
-        Reply::Assignment
-    } else {
-        Reply::Refutation
-    }
-}
-
-// Writes a body, and zeros behind it.
-fn write_body(tape: &[u32], header: Header, answer: &mut [u32])
-    requires lies { header.place + header.size ≤ length tape.now }
-    requires fits { header.size ≤ length answer.old }
-    ensures { answer.new ≡ body_in tape.now header (length answer.old) }
-{
-    let place = header.place as usize;
-    let size = header.size as usize;
-    answer.fill(0);
-    answer[0..size].copy_from_slice(&tape[place..place + size]);
-}
-
-// The answer of a record where every place counts.
+// The answer of a record where every place counts: its body, and zeros behind it.
 fn recite(tape: &[u32], i: u32, variables: u32, answer: &mut [u32]) -> Reply
     ensures { (result, answer.new) ≡ recited tape.now i variables answer.old }
 {
-    if !is_sound(tape, i, variables, answer.len()) {
+    let Some((reply, body)) = read_record(tape, i, variables, answer.len()) else {
         return Reply::TooLong;
-    }
-    let header = read_header(tape, i);
-    write_body(tape, header, answer);
-    reply_of(header)
+    };
+    answer.fill(0);
+    answer[..body.len()].copy_from_slice(body);
+    reply
 }
 
 // A recording, and how many of its records are used up. It has how many records there are, three numbers for each of them,
@@ -124,6 +82,6 @@ impl<'a> Producer for Recorded<'a> {
         }
         self.position = i + 1;
         let room = counted_len(answer.len());
-        recite(tape, i, variable_count(question), &mut answer[0..room])
+        recite(tape, i, variable_count(question), &mut answer[..room])
     }
 }

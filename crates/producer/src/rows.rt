@@ -5,7 +5,7 @@ ghost use Rattle.std.specs.Prelude.{◌≡◌, ℕ, ◌+◌, ◌*◌, ◌^◌, �
 ghost use Rattle.question.specs.Questions.{clause_of};
 ghost use Rattle.producer.specs.Machine.{mark, Row, Turned, Unset, Joined};
 
-use crate::reading::read_clause;
+use question::read::clause;
 
 // Where the row `i` begins.
 pub(crate) fn row(v: u32, i: usize) -> usize
@@ -28,39 +28,18 @@ fn mark_variables(literals: &[u32], marks: &mut [u32])
     }
 }
 
-// Copies the `n` numbers at `from` to `to`, which stands before them.
-fn copy_row(work: &mut [u32], from: usize, to: usize, n: usize)
-    requires { (to + n ≤ from) × (from + n ≤ length work.old) }
-    ensures copied { (x : ℕ) → x < n → slice_index work.new (to + x) ≡ slice_index work.old (from + x) }
-    ensures kept { (i : ℕ) → i < to → slice_index work.new i ≡ slice_index work.old i }
+// Joins the marks of another clause to these, without the pivot.
+fn join_rows(marks: &mut [u32], others: &[u32], pivot: usize)
+    requires same { length others.now ≡ length marks.old }
+    requires among { pivot < length marks.old }
+    ensures { (x : ℕ) → x < length marks.old → slice_index marks.new x ≡ (if nat_eq x pivot then 0 else (if nat_eq (slice_index others.now x) 0 then slice_index marks.old x else 1)) }
 {
-    for x in 0..n {
-        work[to + x] = work[from + x];
+    for (x, mark) in marks.iter_mut().enumerate() {
+        if others[x] != 0 {
+            *mark = 1;
+        }
     }
-}
-
-// The mark of a variable in the joint clause.
-fn join_marks(is_pivot: bool, first: u32, second: u32) -> u32
-    ensures { result ≡ cond is_pivot 0 (if nat_eq first 0 then second else 1) }
-{
-    if is_pivot {
-        0
-    } else if first == 0 {
-        second
-    } else {
-        1
-    }
-}
-
-// Joins the `n` marks at `from` to those at `to`, which stand behind them, without the pivot.
-fn join_rows(work: &mut [u32], from: usize, to: usize, n: usize, pivot: usize)
-    requires { (from + n ≤ to) × (to + n ≤ length work.old) }
-    ensures joined { (x : ℕ) → x < n → slice_index work.new (to + x) ≡ (if nat_eq x pivot then 0 else (if nat_eq (slice_index work.old (from + x)) 0 then slice_index work.old (to + x) else 1)) }
-    ensures kept { (i : ℕ) → i < to → slice_index work.new i ≡ slice_index work.old i }
-{
-    for x in 0..n {
-        work[to + x] = join_marks(x == pivot, work[from + x], work[to + x]);
-    }
+    marks[pivot] = 0;
 }
 
 // Marks the variables of the clause that ends the branch.
@@ -71,7 +50,7 @@ pub(crate) fn mark_line(question: &[u32], work: &mut [u32], v: u32, k: u32)
     ensures kept { (i : ℕ) → i < (v + 2) * v → slice_index work.new i ≡ slice_index work.old i }
 {
     let from = row(v, v as usize + 2);
-    mark_variables(read_clause(question, k), &mut work[from..from + v as usize]);
+    mark_variables(clause(question, k), &mut work[from..from + v as usize]);
 }
 
 // Joins the marks of the record of the variable `d` to those of the line that ends the branch.
@@ -83,7 +62,9 @@ fn join_line(work: &mut [u32], v: u32, d: u32)
 {
     let n = v as usize;
     let at = d as usize;
-    join_rows(work, row(v, at + 2), row(v, n + 2), n, at);
+    let from = row(v, at + 2);
+    let (stack, marks) = work.split_at_mut(row(v, n + 2));
+    join_rows(&mut marks[..n], &stack[from..from + n], at);
 }
 
 // Puts the 0 branch of the variable `d`, which ended at the line `k`, on the stack, and sets the variable to 1.
@@ -94,7 +75,8 @@ pub(crate) fn push(work: &mut [u32], v: u32, d: u32, k: u32)
 {
     let n = v as usize;
     let at = d as usize;
-    copy_row(work, row(v, n + 2), row(v, at + 2), n);
+    let from = row(v, n + 2);
+    work.copy_within(from..from + n, row(v, at + 2));
     work[at] = 1;
     work[n + at] = k;
 }

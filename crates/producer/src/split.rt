@@ -6,25 +6,20 @@ ghost use Rattle.producer.specs.Machine.{Stood, Moved, Ready, finished};
 ghost use Rattle.producer.specs.Procedure.{End, Found, fits, put, split, roomy, reply_at, answer_at, splitting, splits};
 
 use crate::interface::{Producer, Reply};
-use crate::reading::{count_clauses, find_false};
+use crate::reading::find_false;
 use crate::rows::{mark_line, pop, push, row};
 use answer::steps::Step;
 use lists::{counted, counted_len};
-use question::read::number_at;
+use question::read::{clause_count, variable_count};
+use std::ops::ControlFlow;
 
 // Where the procedure stands: how many variables are set, how many steps are made, and the line that ends the branch, if one
 // does.
-#[derive(Clone, Copy)]
+#[derive(Clone, Copy, Default)]
 pub(crate) struct State {
     pub depth: u32,
     pub steps: u32,
     pub line: Option<u32>,
-}
-
-#[derive(Clone, Copy)]
-pub(crate) enum Move {
-    On(State),
-    Done(Reply),
 }
 
 // Writes the step after `i` steps.
@@ -46,26 +41,24 @@ fn has_room(places: usize, steps: u32) -> bool
 }
 
 // Goes into the branch of the values set so far.
-fn descend(question: &[u32], work: &mut [u32], v: u32, at: State) -> Move
+fn descend(question: &[u32], work: &mut [u32], v: u32, at: State) -> ControlFlow<Reply, State>
     requires { Ready question.now v work.old at }
     ensures { (n : ℕ) (a : List ℕ) (all : End) → at.line ≡ None → Stood question.now n v work.old a at all → Moved question.now n v work.old work.new a at all result }
 {
-    if let Some(k) = find_false(question, &work[0..v as usize], at.depth) {
+    if let Some(k) = find_false(question, &work[..v as usize], at.depth) {
         mark_line(question, work, v, k);
-        return Move::On(State {
-            depth: at.depth,
-            steps: at.steps,
+        return ControlFlow::Continue(State {
             line: Some(k),
+            ..at
         });
     }
     if at.depth == v {
-        return Move::Done(Reply::Assignment);
+        return ControlFlow::Break(Reply::Assignment);
     }
     work[at.depth as usize] = 0;
-    Move::On(State {
+    ControlFlow::Continue(State {
         depth: at.depth + 1,
-        steps: at.steps,
-        line: None,
+        ..at
     })
 }
 
@@ -77,33 +70,24 @@ fn ascend(
     v: u32,
     at: State,
     line: u32,
-) -> Move
+) -> ControlFlow<Reply, State>
     requires { Ready question.now v work.old at }
     ensures { (all : End) → at.line ≡ Some line → Stood question.now (length answer.old) v work.old answer.old at all → Moved question.now (length answer.old) v work.old work.new answer.new at all result }
 {
-    if at.depth == 0 {
-        return Move::Done(Reply::Refutation);
-    }
-    let d = at.depth - 1;
+    let Some(d) = at.depth.checked_sub(1) else {
+        return ControlFlow::Break(Reply::Refutation);
+    };
     let marks = row(v, v as usize + 2);
     if work[marks + d as usize] == 0 {
         work[d as usize] = 2;
-        return Move::On(State {
-            depth: d,
-            steps: at.steps,
-            line: Some(line),
-        });
+        return ControlFlow::Continue(State { depth: d, ..at });
     }
     if work[d as usize] == 0 {
         push(work, v, d, line);
-        return Move::On(State {
-            depth: at.depth,
-            steps: at.steps,
-            line: None,
-        });
+        return ControlFlow::Continue(State { line: None, ..at });
     }
     if !has_room(answer.len(), at.steps) {
-        return Move::Done(Reply::TooLong);
+        return ControlFlow::Break(Reply::TooLong);
     }
     let first = pop(work, v, d);
     put_step(
@@ -115,15 +99,21 @@ fn ascend(
             pivot: d,
         },
     );
-    Move::On(State {
+    ControlFlow::Continue(State {
         depth: d,
         steps: at.steps + 1,
-        line: Some(count_clauses(question) + at.steps),
+        line: Some(clause_count(question) + at.steps),
     })
 }
 
-// One turn of the procedure.
-fn turn(question: &[u32], answer: &mut [u32], work: &mut [u32], v: u32, at: State) -> Move
+// One turn of the procedure: where it stands then, or what it replies.
+fn turn(
+    question: &[u32],
+    answer: &mut [u32],
+    work: &mut [u32],
+    v: u32,
+    at: State,
+) -> ControlFlow<Reply, State>
     requires { Ready question.now v work.old at }
     ensures { (all : End) → Stood question.now (length answer.old) v work.old answer.old at all → Moved question.now (length answer.old) v work.old work.new answer.new at all result }
 {
@@ -139,7 +129,7 @@ fn write_values(answer: &mut [u32], work: &[u32], v: u32)
     ensures { answer.new ≡ answer_at (length answer.old) (Found (take v work.now)) }
 {
     let n = v as usize;
-    answer[0..n].copy_from_slice(&work[0..n]);
+    answer[..n].copy_from_slice(&work[..n]);
     answer[n..].fill(0);
 }
 
@@ -151,8 +141,8 @@ fn finish(answer: &mut [u32], work: &[u32], v: u32, steps: u32, reply: Reply)
     match reply {
         Reply::Assignment => write_values(answer, work, v),
         Reply::Refutation => {
-            if answer.len() > 0 {
-                answer[0] = steps;
+            if let Some(count) = answer.first_mut() {
+                *count = steps;
             }
         }
         Reply::TooLong => answer.fill(0),
@@ -170,15 +160,11 @@ fn run(question: &[u32], answer: &mut [u32], work: &mut [u32], v: u32) -> Reply
     ensures replies { result ≡ reply_at (split question.now (length answer.old) v [] []) }
     ensures answers { answer.new ≡ answer_at (length answer.old) (split question.now (length answer.old) v [] []) }
 {
-    let mut at = State {
-        depth: 0,
-        steps: 0,
-        line: None,
-    };
+    let mut at = State::default();
     loop {
         match turn(question, answer, work, v, at) {
-            Move::On(next) => at = next,
-            Move::Done(reply) => {
+            ControlFlow::Continue(next) => at = next,
+            ControlFlow::Break(reply) => {
                 finish(answer, work, v, at.steps, reply);
                 return reply;
             }
@@ -188,13 +174,14 @@ fn run(question: &[u32], answer: &mut [u32], work: &mut [u32], v: u32) -> Reply
 
 // Whether the lists have room to begin.
 fn is_roomy(question: &[u32], places: usize, room: usize) -> bool
+    requires { length question.now ≤ 2 ^ 28 }
     ensures { result ≡ roomy question.now places room }
 {
-    let v = number_at(question, 0);
+    let v = variable_count(question);
     let side = u128::from(v) + 4;
     v as usize <= places
         && side * side <= room as u128
-        && count_clauses(question) as usize <= question.len()
+        && clause_count(question) as usize <= question.len()
 }
 
 // Splits where there is room to begin, with an answer list that is zero.
@@ -208,8 +195,8 @@ fn attempt(question: &[u32], answer: &mut [u32], work: &mut [u32]) -> Reply
     if !is_roomy(question, answer.len(), work.len()) {
         return Reply::TooLong;
     }
-    let v = number_at(question, 0);
-    work[0..v as usize].fill(2);
+    let v = variable_count(question);
+    work[..v as usize].fill(2);
     run(question, answer, work, v)
 }
 
@@ -252,6 +239,6 @@ impl Producer for Splitting {
     fn answer(&mut self, question: &[u32], answer: &mut [u32], work: &mut [u32]) -> Reply {
         let room = counted_len(answer.len());
         let space = counted_len(work.len());
-        decide(counted(question), &mut answer[0..room], &mut work[0..space])
+        decide(counted(question), &mut answer[..room], &mut work[..space])
     }
 }
