@@ -7,11 +7,12 @@ ghost use Rattle.sheet.specs.Sheets.{gate_count, Legal};
 ghost use Rattle.sheet.specs.declared.fault.Layer.TheVariants.{Open};
 ghost use Rattle.formula.specs.Built.{size_of_start, write_start};
 ghost use Rattle.checker.specs.Lists.{lists};
+ghost use Rattle.checker.specs.Lent.{held, SameLists};
 ghost use Rattle.checker.specs.Opening.{Opened, opened, start_made};
 ghost use Rattle.checker.specs.Calls.{handed_back, fetched, shown, weighed, taken, set_aside};
 ghost use Rattle.checker.specs.Promises.{Begins, ShowGoesOn, WeighGoesOn, TakeGoesOn, AsideGoesOn, ShownAnswers, TakenAnswers, FetchedStands, CountsTurns, ShownFewer, MovedFewer, WeighedSame};
 
-use crate::lent::{said_part, used_part};
+use crate::lent::{Lists, said_part, used_part};
 use crate::{Answer, Asked, Kind, Limits, Moved, Refused, Region, Weighed};
 use answer::assignments::satisfies;
 use answer::refutations::check_refutation;
@@ -134,23 +135,16 @@ impl Asked {
     // Judges an assignment, and moves on if it satisfies the question.
     fn judge_assignment(
         self,
-        sheet: &[u32],
-        formula: &mut [u32],
-        values: &mut [u32],
-        question: &mut [u32],
         assignment: &[u32],
+        sheet: &[u32],
+        lists: &mut Lists<'_>,
     ) -> Result<Moved, Refused>
-        ensures { (result, lists formula.new values.new question.new) ≡ shown sheet.now self assignment.now (lists formula.old values.old question.old) }
+        ensures moves { (result, held lists.new) ≡ shown sheet.now self assignment.now (held lists.old) }
+        ensures same_lists { SameLists lists.old lists.new }
     {
+        let question = &mut *lists.question;
         match satisfies(self.fetch(question), assignment) {
-            Ok(()) => Ok(self.moved(
-                Answer::Assignment,
-                sheet,
-                assignment,
-                formula,
-                values,
-                question,
-            )),
+            Ok(()) => Ok(self.moved(Answer::Assignment, assignment, sheet, lists)),
             Err(fault) => Err(self.refused(fault)),
         }
     }
@@ -220,7 +214,12 @@ impl Asked {
         ensures fewer_answers_are_left { ShownFewer self result }
         ensures answers_in_the_procedure { ShownAnswers sheet.now self assignment.now (lists formula.old line_values.old question.old) result (lists formula.new line_values.new question.new) }
     {
-        self.judge_assignment(sheet, formula, line_values, question, assignment)
+        let mut lists = Lists {
+            formula,
+            values: line_values,
+            question,
+        };
+        self.judge_assignment(assignment, sheet, &mut lists)
     }
 
     // Weighs a refutation. If it is one the check is weighed; else it is handed back as it was, and the working list is zero.
@@ -240,24 +239,12 @@ impl Asked {
 
 impl Weighed {
     // Moves on by the part of a refutation that it says it is.
-    fn moved(
-        self,
-        sheet: &[u32],
-        formula: &mut [u32],
-        values: &mut [u32],
-        question: &mut [u32],
-        refutation: &[u32],
-    ) -> Moved
-        ensures { (result, lists formula.new values.new question.new) ≡ taken sheet.now self refutation.now (lists formula.old values.old question.old) }
+    fn moved(self, refutation: &[u32], sheet: &[u32], lists: &mut Lists<'_>) -> Moved
+        ensures moves { (result, held lists.new) ≡ taken sheet.now self refutation.now (held lists.old) }
+        ensures same_lists { SameLists lists.old lists.new }
     {
-        self.asked.moved(
-            Answer::Refutation,
-            sheet,
-            said_part(refutation),
-            formula,
-            values,
-            question,
-        )
+        self.asked
+            .moved(Answer::Refutation, said_part(refutation), sheet, lists)
     }
 
     // The check as it was asked.
@@ -282,7 +269,12 @@ impl Weighed {
         ensures fewer_answers_are_left { MovedFewer self.asked result }
         ensures answers_in_the_procedure { TakenAnswers sheet.now self refutation.now (lists formula.old line_values.old question.old) result (lists formula.new line_values.new question.new) }
     {
-        self.moved(sheet, formula, line_values, question, refutation)
+        let mut lists = Lists {
+            formula,
+            values: line_values,
+            question,
+        };
+        self.moved(refutation, sheet, &mut lists)
     }
 
     // Leaves the refutation, and returns to the question.
