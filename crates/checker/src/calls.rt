@@ -1,5 +1,4 @@
-// The calls of a check. What each does stands in a private function, which has the equation; the public one adds what then holds over
-// a series of calls.
+// The calls of a check: what each does, and what then holds over a series of calls.
 ghost use Rattle.std.specs.Prelude.{◌≡◌, ◌+◌, ◌*◌, ◌≤◌, length};
 ghost use Rattle.lists.specs.Counted.{counted};
 ghost use Rattle.sheet.specs.Faults.{fault};
@@ -56,58 +55,23 @@ fn begin(
     requires space { 10 + 10 * (gate_count (counted sheet.now) + size_of_start (counted sheet.now)) ≤ length (counted question.old) }
     ensures { ◌≡◌ {A = Opened} (result, formula.new, question.new) (start_made sheet.now limits.bound limits.turns formula.old question.old (write_start sheet.now formula.old)) }
 {
-    match start_formula(sheet, formula) {
-        None => Err(unopened(24)),
-        Some(start) => {
-            match start_question(sheet, formula, start.count, start.literal, question) {
-                None => Err(unopened(25)),
-                Some(size) => {
-                    let opening = Region {
-                        literal: start.literal,
-                        gates: start.count,
-                        grown: false,
-                    };
-                    Ok(Asked {
-                        kind: Kind::Start,
-                        size,
-                        bound: 0,
-                        region: opening,
-                        opening,
-                        limits,
-                        turns: 0,
-                    })
-                }
-            }
-        }
-    }
-}
-
-// Opens a check, once all is found right.
-fn open_check(
-    sheet: &[u32],
-    limits: Limits,
-    formula: &mut [u32],
-    question: &mut [u32],
-) -> Result<Asked, Fault>
-    ensures { ◌≡◌ {A = Opened} (result, formula.new, question.new) (opened sheet.now limits.bound limits.turns formula.old question.old) }
-{
-    if !is_legal(sheet) {
-        return Err(unopened(21));
-    }
-    if limits.bound > MOST_BOUND {
-        return Err(unopened(22));
-    }
-    if limits.turns == 0 {
-        return Err(unopened(23));
-    }
-    let gates = start_size(sheet);
-    if counted_len(formula.len()) < 2 * gates as usize {
-        return Err(unopened(24));
-    }
-    if counted_len(question.len()) < start_question_size(sheet, gates) {
-        return Err(unopened(25));
-    }
-    begin(sheet, limits, formula, question)
+    let start = start_formula(sheet, formula).ok_or(unopened(24))?;
+    let posed = start_question(sheet, formula, start.count, start.literal, question);
+    let size = posed.ok_or(unopened(25))?;
+    let opening = Region {
+        literal: start.literal,
+        gates: start.count,
+        grown: false,
+    };
+    Ok(Asked {
+        kind: Kind::Start,
+        size,
+        bound: 0,
+        region: opening,
+        opening,
+        limits,
+        turns: 0,
+    })
 }
 
 impl Asked {
@@ -116,52 +80,6 @@ impl Asked {
         ensures { result ≡ handed_back self fault }
     {
         Refused { asked: self, fault }
-    }
-
-    // The count of answers.
-    fn count(&self) -> u32
-        ensures { result ≡ self.now.turns }
-    {
-        self.turns
-    }
-
-    // The question that stands, in its list.
-    fn standing<'a>(&self, question: &'a [u32]) -> &'a [u32]
-        ensures { result.now ≡ fetched self.now question.now }
-    {
-        used_part(question, self.size)
-    }
-
-    // Judges an assignment, and moves on if it satisfies the question.
-    fn judge_assignment(
-        self,
-        assignment: &[u32],
-        sheet: &[u32],
-        lists: &mut Lists<'_>,
-    ) -> Result<Moved, Refused>
-        ensures moves { (result, held lists.new) ≡ shown sheet.now self assignment.now (held lists.old) }
-        ensures same_lists { SameLists lists.old lists.new }
-    {
-        let question = &mut *lists.question;
-        match satisfies(self.fetch(question), assignment) {
-            Ok(()) => Ok(self.moved(Answer::Assignment, assignment, sheet, lists)),
-            Err(fault) => Err(self.refused(fault)),
-        }
-    }
-
-    // Judges a refutation.
-    fn judge_refutation(
-        self,
-        question: &[u32],
-        refutation: &[u32],
-        work: &mut [u32],
-    ) -> Result<Weighed, Refused>
-        ensures { (result, work.new) ≡ weighed self question.now refutation.now work.old }
-    {
-        match check_refutation(self.fetch(question), refutation, work) {
-            Ok(()) => Ok(Weighed { asked: self }),
-            Err(fault) => Err(self.refused(fault)),
-        }
     }
 
     // Opens a check of a sheet: the start question stands. Refused, with nothing written, for a sheet list that reading does not
@@ -177,11 +95,27 @@ impl Asked {
         ensures opens_by_the_rules { ◌≡◌ {A = Opened} (result, formula.new, question.new) (opened sheet.now step_limit turn_limit formula.old question.old) }
         ensures a_series_begins { Begins sheet.now step_limit turn_limit result formula.new question.new }
     {
+        if !is_legal(sheet) {
+            return Err(unopened(21));
+        }
+        if step_limit > MOST_BOUND {
+            return Err(unopened(22));
+        }
+        if turn_limit == 0 {
+            return Err(unopened(23));
+        }
+        let gates = start_size(sheet);
+        if counted_len(formula.len()) < 2 * gates as usize {
+            return Err(unopened(24));
+        }
+        if counted_len(question.len()) < start_question_size(sheet, gates) {
+            return Err(unopened(25));
+        }
         let limits = Limits {
             bound: step_limit,
             turns: turn_limit,
         };
-        open_check(sheet, limits, formula, question)
+        begin(sheet, limits, formula, question)
     }
 
     // How many answers were shown or taken so far.
@@ -189,7 +123,7 @@ impl Asked {
         ensures is_the_count { result ≡ self.now.turns }
         ensures counts_the_answers { CountsTurns self.now result }
     {
-        self.count()
+        self.turns
     }
 
     // The question that stands, where it lies.
@@ -197,7 +131,7 @@ impl Asked {
         ensures lends_the_question { result.now ≡ fetched self.now question.now }
         ensures asks_what_it_stands_for { FetchedStands self.now question.now result.now }
     {
-        self.standing(question)
+        used_part(question, self.size)
     }
 
     // Shows an assignment. If it satisfies the question the check moves on; else the check is handed back as it was.
@@ -214,12 +148,17 @@ impl Asked {
         ensures fewer_answers_are_left { ShownFewer self result }
         ensures answers_in_the_procedure { ShownAnswers sheet.now self assignment.now (lists formula.old line_values.old question.old) result (lists formula.new line_values.new question.new) }
     {
-        let mut lists = Lists {
-            formula,
-            values: line_values,
-            question,
-        };
-        self.judge_assignment(assignment, sheet, &mut lists)
+        match satisfies(self.fetch(question), assignment) {
+            Ok(()) => {
+                let mut lists = Lists {
+                    formula,
+                    values: line_values,
+                    question,
+                };
+                Ok(self.moved(Answer::Assignment, assignment, sheet, &mut lists))
+            }
+            Err(fault) => Err(self.refused(fault)),
+        }
     }
 
     // Weighs a refutation. If it is one the check is weighed; else it is handed back as it was, and the working list is zero.
@@ -233,28 +172,14 @@ impl Asked {
         ensures is_the_same_check { WeighedSame self result }
         ensures the_series_goes_on { WeighGoesOn self question.now refutation.now result }
     {
-        self.judge_refutation(question, refutation, work)
+        match check_refutation(self.fetch(question), refutation, work) {
+            Ok(()) => Ok(Weighed { asked: self }),
+            Err(fault) => Err(self.refused(fault)),
+        }
     }
 }
 
 impl Weighed {
-    // Moves on by the part of a refutation that it says it is.
-    fn moved(self, refutation: &[u32], sheet: &[u32], lists: &mut Lists<'_>) -> Moved
-        ensures moves { (result, held lists.new) ≡ taken sheet.now self refutation.now (held lists.old) }
-        ensures same_lists { SameLists lists.old lists.new }
-    {
-        self.asked
-            .moved(Answer::Refutation, said_part(refutation), sheet, lists)
-    }
-
-    // The check as it was asked.
-    fn returned(self) -> Asked
-        ensures { result ≡ set_aside self }
-    {
-        let Weighed { asked } = self;
-        asked
-    }
-
     // Takes the refutation that was weighed: the check moves on.
     pub fn take(
         self,
@@ -274,7 +199,9 @@ impl Weighed {
             values: line_values,
             question,
         };
-        self.moved(refutation, sheet, &mut lists)
+        let said = said_part(refutation);
+        self.asked
+            .moved(Answer::Refutation, said, sheet, &mut lists)
     }
 
     // Leaves the refutation, and returns to the question.
@@ -282,6 +209,7 @@ impl Weighed {
         ensures returns_to_the_question { result ≡ set_aside self }
         ensures the_series_goes_on { AsideGoesOn self result }
     {
-        self.returned()
+        let Weighed { asked } = self;
+        asked
     }
 }

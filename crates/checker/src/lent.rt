@@ -48,7 +48,7 @@ pub(crate) fn used_part(question: &[u32], size: usize) -> &[u32]
     ensures { result.now ≡ used_part size question.now }
 {
     let question = counted(question);
-    &question[0..question.len().min(size)]
+    &question[..question.len().min(size)]
 }
 
 // The part of a list that a refutation says it is: how many steps, and three numbers for each.
@@ -57,7 +57,7 @@ pub(crate) fn said_part(refutation: &[u32]) -> &[u32]
 {
     let refutation = counted(refutation);
     let size = 1 + 3 * number_at(refutation, 0) as usize;
-    &refutation[0..refutation.len().min(size)]
+    &refutation[..refutation.len().min(size)]
 }
 
 // How many nodes a sheet has.

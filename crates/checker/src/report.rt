@@ -26,16 +26,6 @@ pub struct Report {
 }
 
 impl Ended {
-    fn report(&self, verdict: Verdict) -> Report
-        ensures { result ≡ reported verdict self.now }
-    {
-        Report {
-            verdict,
-            bound: self.bound,
-            turns: self.turns,
-        }
-    }
-
     // How the check ended. After a run, its frames are written into `run`, the latches of each before its inputs, with zeros
     // behind them; `assignment` is to be the one that was shown last. Refused, with nothing written, if the run does not fit
     // (51).
@@ -47,16 +37,21 @@ impl Ended {
     ) -> Result<Report, Fault>
         ensures reads_off_by_the_rules { (result, run.new) ≡ read_off sheet.now self.now assignment.now run.old }
     {
-        match self.end {
-            End::Safe => Ok(self.report(Verdict::Safe)),
+        let verdict = match self.end {
+            End::Safe => Verdict::Safe,
             End::Run { last, variables } => {
                 let assignment = used_part(assignment, variables as usize);
                 let steps = run_off(sheet, assignment, last, run)?;
-                Ok(self.report(Verdict::Run { steps }))
+                Verdict::Run { steps }
             }
-            End::Undecided => Ok(self.report(Verdict::Undecided)),
-            End::Spent => Ok(self.report(Verdict::Spent)),
-            End::Short(lack) => Ok(self.report(Verdict::Short(lack))),
-        }
+            End::Undecided => Verdict::Undecided,
+            End::Spent => Verdict::Spent,
+            End::Short(lack) => Verdict::Short(lack),
+        };
+        Ok(Report {
+            verdict,
+            bound: self.bound,
+            turns: self.turns,
+        })
     }
 }
