@@ -1,11 +1,12 @@
 // Reading off a check that has ended.
-ghost use Rattle.std.specs.Prelude.{◌≡◌};
-ghost use Rattle.checker.specs.Reports.{reported, read_off};
+ghost use Rattle.std.specs.Prelude.{◌≡◌, Some};
+ghost use Rattle.checker.specs.Reports.{read_off, verdict_word};
 
 use crate::lent::used_part;
 use crate::runs::run_off;
 use crate::{End, Ended, Lack};
 use sheet::fault::Fault;
+use std::fmt;
 
 // How a check ended: after a run, how many steps it has; after want of room, in which list.
 #[derive(Clone, Copy, PartialEq, Eq)]
@@ -15,6 +16,20 @@ pub enum Verdict {
     Undecided,
     Spent,
     Short(Lack),
+}
+
+impl fmt::Display for Verdict {
+    ghost output = { λ verdict. Some (verdict_word verdict) };
+
+    fn fmt<W: fmt::Write>(&self, f: &mut fmt::Formatter<W>) -> fmt::Result {
+        match self {
+            Verdict::Safe => write!(f, "safe"),
+            Verdict::Run { .. } => write!(f, "run"),
+            Verdict::Undecided => write!(f, "undecided"),
+            Verdict::Spent => write!(f, "spent"),
+            Verdict::Short(_) => write!(f, "short"),
+        }
+    }
 }
 
 // The verdict, the bound, and how many answers were shown or taken.

@@ -3,7 +3,7 @@ ghost use Rattle.std.specs.Prelude.{◌≡◌, suc, ◌++◌, drop, IfOk, string
 ghost use Rattle.lists.specs.Counted.{counted};
 ghost use Rattle.sheet.specs.Sheets.{input_count, latch_count};
 ghost use Rattle.checker.specs.Reports.{numbers_from};
-ghost use Rattle.driver.specs.Texts.{verdict_word, line_text, report_text, frames_text, run_text, ended_text, fault_text, TellsReport, TellsFault, ShowsRun};
+ghost use Rattle.driver.specs.Texts.{line_text, report_text, frames_text, run_text, ended_text, fault_text, TellsReport, TellsFault, ShowsRun};
 
 use checker::report::{Report, Verdict};
 use lists::counted;
@@ -18,24 +18,11 @@ fn behind(list: &[u32], count: u32) -> &[u32]
     &list[list.len().min(count as usize)..]
 }
 
-fn verdict_word(verdict: Verdict) -> &'static str
-    ensures { result.now ≡ verdict_word verdict }
-{
-    match verdict {
-        Verdict::Safe => "safe",
-        Verdict::Run { .. } => "run",
-        Verdict::Undecided => "undecided",
-        Verdict::Spent => "spent",
-        Verdict::Short(_) => "short",
-    }
-}
-
 // The line of a report.
 fn report_text(heap: Global, report: Report) -> Result<String, AllocError>
     ensures { IfOk result (λ s. string_bytes s ≡ report_text report) }
 {
-    let word = verdict_word(report.verdict);
-    format!(in heap; "{word} {} {}\n", report.bound, report.turns)
+    format!(in heap; "{} {} {}\n", report.verdict, report.bound, report.turns)
 }
 
 // Adds a line: a word, and the first `count` numbers of a list.
