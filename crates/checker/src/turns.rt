@@ -120,7 +120,7 @@ impl Asked {
         self.ask_path(bound, self.opening, sheet, lists)
     }
 
-    // One turn, in place: the end, if the check ends with it.
+    // One turn, in place. An `Err` is the end of the check.
     fn turn(
         &mut self,
         answer: Answer,
