@@ -1,5 +1,5 @@
 -- What opening a check answers. Assumes nothing.
-use Rattle.std.proofs.Common.{◌≡◌, ℕ, ◌+◌, ◌*◌, ◌^◌, ◌<◌, ◌≤◌, min, Bool, true, false, ltb, leb, List, length, is_some, Some, None, Ok, Err, Option, sym, refl, ap, ◌∙◌, ⊎_elim, arith, length-take}
+use Rattle.std.proofs.Common.{◌≡◌, ℕ, ◌+◌, ◌*◌, ◌^◌, ◌<◌, ◌≤◌, min, Bool, true, false, ltb, leb, List, length, is_some, Some, None, Err, Option, sym, refl, ap, ◌∙◌, ⊎_elim, arith, length-take}
 use Rattle.std.proofs.lemmas.List.{get_or-take}
 use Rattle.std.proofs.lemmas.Bool.{cond-true, cond-false, and_from, and_left, le-leb, lt-leb, lt-ltb, false≢true}
 use Rattle.lists.specs.Counted.{counted}
@@ -25,9 +25,9 @@ use Rattle.question.specs.Clauses.{start_clauses}
 use Rattle.question.specs.Layout.{start_list, given, posed_if, all_below}
 use Rattle.question.proofs.Counts.{state_length, state_literals}
 use Rattle.question.proofs.Laying.{length_encode}
-use Rattle.checker.specs.Opening.{Opened, unopened, at_start, start_asked, start_made, opened}
+use Rattle.checker.specs.Opening.{Opened, unopened, start_asked, start_made, opened}
 
-abbrev Found : Type 0
+abbrev pub Found : Type 0
 Found = Option Started × List ℕ
 
 abbrev Posed : Type 0
@@ -76,10 +76,6 @@ count_is l f d t legal e =
 module _ (l : List ℕ) (K Q : ℕ) (f q f' : List ℕ) (d : Started) (is : ◌≡◌ {A = Found} (Some d, f') (write_start l f)) (q' : List ℕ) where
   abbrev list : List ℕ
   list = start_list (sheet_of (counted l)) (counted f') d.count d.literal.0
-
-  pub begun_by : (n : ℕ) → ◌≡◌ {A = Posed} (Some n, q') (posed_if (given l f' d.count) list q)
-      → ◌≡◌ {A = Opened} (Ok (at_start K Q d n), f', q') (start_made l K Q f q (write_start l f))
-  begun_by n e = ap (λ (p : Posed). start_asked K Q d f f' q p) e ∙ ap (λ (p : Found). start_made l K Q f q p) is
 
   pub never_none : Legal (counted l) → 2 * size_of_start (counted l) ≤ length (counted f)
       → 10 + 10 * (gate_count (counted l) + size_of_start (counted l)) ≤ length (counted q) → length f' ≡ length f

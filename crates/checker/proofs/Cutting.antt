@@ -41,6 +41,3 @@ posed_sized false q old = tt
 -- ---- the front of a formula list has the gates that lie in it
 pub front_pairs : (f : List ℕ) (n : ℕ) → 2 * n ≤ length (counted f) → SamePairs f (counted f) n
 front_pairs f n room k h = get_or-take (2 ^ 28) f k 0 (omega (arith, few_counted f))
-
-pub pairs_front : (f : List ℕ) (n : ℕ) → 2 * n ≤ length (counted f) → SamePairs (counted f) f n
-pairs_front f n room k h = sym (front_pairs f n room k h)

@@ -1,19 +1,11 @@
 -- What the calls on single lists answer. Assumes nothing.
-use Rattle.std.proofs.Common.{◌≡◌, ℕ, ◌+◌, ◌-◌, ◌*◌, ◌^◌, ◌<◌, ◌≤◌, min, List, ◌++◌, length, get_or, take, drop, replicate, sym, ap, ◌∙◌, ⊎_elim, arith, length-drop, length-take}
+use Rattle.std.proofs.Common.{◌≡◌, ℕ, ◌+◌, ◌-◌, ◌*◌, ◌^◌, ◌<◌, ◌≤◌, min, List, ◌++◌, length, take, drop, replicate, sym, ap, ◌∙◌, ⊎_elim, arith, length-drop, length-take}
 use borrow.Rule.Slice.PartMut.{put_mid}
 use Rattle.std.proofs.lemmas.List.{append_assoc, take_all, take-take, drop-drop}
 use Rattle.std.proofs.lemmas.Bool.{cases_lt}
 use Rattle.lists.specs.Counted.{counted, uncounted}
 use Rattle.lists.proofs.Taken.{take_min, drop_min}
-use Rattle.checker.specs.Lists.{restored, used_part, said_part}
-
--- the front of what counts
-pub used_by : (q c : List ℕ) (n m : ℕ) → c ≡ counted q → m ≡ min (length c) n → take (m - 0) c ≡ used_part n q
-used_by q c n m is cut = take_min c n (m - 0) (omega arith) ∙ ap (λ (xs : List ℕ). take n xs) is
-
-pub said_by : (t c : List ℕ) (k m : ℕ) → c ≡ counted t → k ≡ get_or c 0 0 → m ≡ min (length c) (1 + 3 * k) → take (m - 0) c ≡ said_part t
-said_by t c k m is told cut =
-    take_min c (1 + 3 * k) (m - 0) (omega arith) ∙ ap (λ (j : ℕ). take (1 + 3 * j) c) told ∙ ap (λ (xs : List ℕ). take (1 + 3 * get_or xs 0 0) xs) is
+use Rattle.checker.specs.Lists.{restored}
 
 -- the front that two cuts leave
 take_twice : (xs : List ℕ) (a b m : ℕ) → m ≡ min a (min (length xs) b) → take m xs ≡ take a (take b xs)

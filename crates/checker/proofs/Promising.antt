@@ -1,6 +1,6 @@
 -- What each call promises where a series led to it. Assumes nothing.
 use Rattle.std.proofs.Common.{◌≡◌, ℕ, ◌+◌, ◌⊎◌, List, [], is_ok, Some, None, Ok, Err, Option, Result, sym, refl, ap, ◌∙◌, subst, inl, inr, arith, length-take}
-use Rattle.lists.specs.Counted.{counted, on_counted}
+use Rattle.lists.specs.Counted.{counted}
 use Rattle.sheet.specs.Trip.{Iff}
 use Rattle.sheet.specs.declared.fault.Fault.{Fault}
 use Rattle.procedure.specs.Procedure.{Point, Question, start, path, inclusion, safe, undecided, spent, asks, ended, limited, Answer as Step}
@@ -11,7 +11,6 @@ use Rattle.question.specs.Questions.{Satisfiable}
 use Rattle.question.proofs.Paths.{path_asks}
 use Rattle.question.proofs.States.{start_asks, inclusion_asks}
 use Rattle.answer.specs.Assignments.{judged}
-use Rattle.answer.specs.Runs.{checked}
 use Rattle.answer.proofs.Judging.{judged_means}
 use Rattle.checker.specs.declared.Kind.{Kind}
 use Rattle.checker.specs.declared.Kind.TheVariants.{Start, Path, Inclusion}
@@ -25,9 +24,9 @@ use Rattle.checker.specs.declared.Refused.{Refused}
 use Rattle.checker.specs.Lists.{Lists, lists, said_part}
 use Rattle.checker.specs.Opening.{opened}
 use Rattle.checker.specs.Turns.{turned, settled}
-use Rattle.checker.specs.Calls.{fetched, showing, shown, weighing, weighed, taken, set_aside}
+use Rattle.checker.specs.Calls.{fetched, showing, shown, weighed, taken, set_aside}
 use Rattle.checker.specs.Points.{sheet_in, AsksFor, StandsFor, IsShort, AsPoint, AsAsked, AsQuestion, Answers}
-use Rattle.checker.specs.Promises.{Begins, ShowGoesOn, WeighGoesOn, TakeGoesOn, AsideGoesOn, ShownAnswersAt, ShownAnswers, TakenAnswers, FetchedStands, CountsTurns, WeighedSame}
+use Rattle.checker.specs.Promises.{Begins, ShowGoesOn, WeighGoesOn, TakeGoesOn, AsideGoesOn, ShownAnswersAt, ShownAnswers, TakenAnswers, FetchedStands, CountsTurns}
 use Rattle.checker.specs.Series.{Stage, at_asked, at_weighed, at_ended, reached, Series, opens, fetches, show_refused, shows, weigh_refused, weighs, takes, sets_aside}
 use Rattle.checker.proofs.Cutting.{few_counted, counted_few}
 use Rattle.checker.proofs.Holding.{holds, is_question}
@@ -172,12 +171,3 @@ taken_answers l d t x m x' e K Q n s =
 
 pub by_turns : (a : Asked) (turns : ℕ) → turns ≡ a.turns → CountsTurns a turns
 by_turns a turns is l K Q n x s = is ∙ (holds s).sound.turns
-
-weighing_same : (o : Result (Unit {0}) Fault) (a : Asked) → WeighedSame a (weighing o a)
-weighing_same (Ok _) a = refl
-weighing_same (Err e) a = refl
-
-pub weighed_same : (a : Asked) (q t w : List ℕ) (r : Result Weighed Refused) (w' : List ℕ) → (r, w') ≡ weighed a q t w → WeighedSame a r
-weighed_same a q t w r w' e =
-    subst (λ (p : Result Weighed Refused × List ℕ). WeighedSame a p.0) (sym e)
-    (weighing_same (on_counted (checked (counted (fetched a q)) (counted t)) w).0 a)

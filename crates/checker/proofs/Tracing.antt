@@ -1,13 +1,14 @@
 -- A run as numbers, turn by turn. Assumes nothing.
-use Rattle.std.proofs.Common.{◌≡◌, ℕ, zero, suc, ◌+◌, ◌-◌, ◌*◌, ◌/◌, ◌%◌, ◌^◌, ◌<◌, ◌≤◌, min, Bool, true, false, not, eqb, ltb, List, [], ◌∷◌, ◌++◌, map, length, get_or, take, drop, set, replicate, Some, None, Ok, Result, sym, refl, ap, ◌∙◌, ⊎_elim, suc-mul, arith, length-append, length-drop, length-take}
+use Rattle.std.proofs.Common.{◌≡◌, ℕ, zero, suc, ◌+◌, ◌-◌, ◌*◌, ◌/◌, ◌%◌, ◌^◌, ◌<◌, ◌≤◌, min, Bool, true, false, not, eqb, ltb, List, [], ◌∷◌, ◌++◌, map, length, get_or, take, drop, set, replicate, Some, None, Ok, Option, Result, sym, refl, ap, ◌∙◌, ⊎_elim, suc-mul, arith, length-append, length-drop, length-take}
 use borrow.Rule.Slice.PartMut.{put_mid, post_of}
 use Rattle.std.specs.List.{range_with_len}
 use Rattle.std.proofs.lemmas.List.FromFn.{fill_by_all, length-map-range_with_len}
 use Rattle.std.proofs.lemmas.Nat.{mul-le}
 use Rattle.std.proofs.lemmas.List.Edits.{fill_by_more}
 use Rattle.std.proofs.lemmas.Slice.{take-put_mid}
-use Rattle.std.proofs.lemmas.List.{append_assoc, append-nil, take_all, take_at, drop_all, get_or_past}
-use Rattle.std.proofs.lemmas.Bool.{cond-true, cond-false, cond_both, cases_eq, eq-eqb, ne_eqb, ltb-false, le-leb}
+use Rattle.std.proofs.lemmas.List.{append_assoc, append-nil, take_all, drop_all, get_or_past}
+use Rattle.std.specs.Option.{MatchOption, unwrap_or}
+use Rattle.std.proofs.lemmas.Bool.{cases_lt, cond-true, cond-false, cond_both, cases_eq, eq-eqb, ne_eqb, ltb-false, le-leb}
 use Rattle.lists.specs.Counted.{counted, uncounted, on_counted}
 use Rattle.lists.proofs.Taken.{take_min, drop_min}
 use Rattle.lists.specs.Stretch.{stretch}
@@ -65,15 +66,25 @@ module _ (xs : List ℕ) (few : length xs ≤ 2 ^ 28) (w t b b' w' : ℕ) (is_b 
       (cases_eq (x % 2) 0)
 
 -- ---- the first frame in which it is 1
-module _ (s : Sheet) (xs : List ℕ) (last t : ℕ) (l : t < last) where
-  one_more : first_bad s xs (last - t) t ≡ first_bad s xs (suc (last - (t + 1))) t
-  one_more = let h : last - t ≡ suc (last - (t + 1)) = omega arith in ap (λ (j : ℕ). first_bad s xs j t) h
+module _ (s : Sheet) (xs : List ℕ) where
+  abbrev pub bad_at : ℕ → Bool
+  bad_at t = lit (bits_of xs) (in_frame (width s) t s.bad)
 
-  pub first_here : true ≡ lit (bits_of xs) (in_frame (width s) t s.bad) → first_bad s xs (last - t) t ≡ t
-  first_here bad = one_more ∙ cond-true _ _ _ (sym bad)
+  first_at : (n t i : ℕ) → t ≤ i → i ≤ t + n → ((k : ℕ) → t ≤ k → k < i → bad_at k ≡ false) → (i < t + n → bad_at i ≡ true) → i ≡ first_bad s xs n t
+  first_at zero t i low high good bad = omega arith
+  first_at (suc n) t i low high good bad =
+      ⊎_elim
+      (λ (l : t < i).
+      first_at n (t + 1) i (omega arith) (omega arith) (λ k a b. good k (omega arith) b) (λ h. bad (omega arith))
+      ∙ sym (cond-false _ _ _ (good t (omega arith) l)))
+      (λ (l : i ≤ t). let is : i ≡ t = omega arith in is ∙ sym (cond-true _ _ _ (ap bad_at (sym is) ∙ bad (omega arith))))
+      (cases_lt t i)
 
-  pub first_later : false ≡ lit (bits_of xs) (in_frame (width s) t s.bad) → first_bad s xs (last - t) t ≡ first_bad s xs (last - (t + 1)) (t + 1)
-  first_later good = one_more ∙ cond-false _ _ _ (sym good)
+  pub first_found : (last : ℕ) (r : Option ℕ)
+      → MatchOption r ((k : ℕ) → 0 ≤ k → k < last → bad_at k ≡ false) (λ i. (0 ≤ i) × (i < last) × (bad_at i ≡ true) × ((k : ℕ) → 0 ≤ k → k < i → bad_at k ≡ false))
+      → unwrap_or r last ≡ first_bad s xs last 0
+  first_found last None none = first_at last 0 last (omega arith) (omega arith) none (λ h. absurd (omega arith))
+  first_found last (Some i) (low, high, bad, good) = first_at last 0 i low (omega arith) good (λ _. bad)
 
 -- ---- numbers that were copied
 shifted : (g : ℕ → ℕ) (a n b c : ℕ) → a + b ≡ c → map (λ k. g (a + k)) (range_with_len b n) ≡ map g (range_with_len c n)
@@ -92,28 +103,6 @@ copied_more xs part from i v l before is k h =
 
 length_numbers : (xs : List ℕ) (i n : ℕ) → length (numbers_from xs i n) ≡ n
 length_numbers xs i n = length-map-range_with_len (λ j. get_or xs j 0) i n
-
--- ---- a frame, in a part that it fills
-module _ (s : Sheet) (xs part a b : List ℕ) (t la ia : ℕ) (is-la : la ≡ t * width s + 1 + s.inputs) (is-ia : ia ≡ t * width s + 1) (sized : length part ≡ s.latches + s.inputs) where
-  abbrev latched : List ℕ
-  latched = a ++ post_of 0 (s.latches - 0) part
-
-  pub frame_by : a ≡ numbers_from xs la (length (take (s.latches - 0) part))
-      → b ≡ numbers_from xs ia (length (take (s.latches + s.inputs - s.latches) (drop s.latches latched)))
-      → put_mid s.latches (s.latches + s.inputs - s.latches) latched b ≡ frame_numbers s xs t
-  frame_by is-a is_b =
-      let front : length (take (s.latches - 0) part) ≡ s.latches = omega (arith, length-take (s.latches - 0) part) in
-      let long_a : length a ≡ s.latches = ap length is-a ∙ length_numbers xs la (length (take (s.latches - 0) part)) ∙ front in
-      let long : length latched ≡ s.latches + s.inputs = omega (arith, length-append a (post_of 0 (s.latches - 0) part), length-drop (s.latches - 0) part) in
-      let back : length (take (s.latches + s.inputs - s.latches) (drop s.latches latched)) ≡ s.inputs =
-      omega (arith, length-take (s.latches + s.inputs - s.latches) (drop s.latches latched), length-drop s.latches latched) in
-      let latches : take s.latches latched ≡ numbers_from xs (t * width s + 1 + s.inputs) s.latches =
-      take_at a (post_of 0 (s.latches - 0) part) s.latches long_a ∙ is-a ∙ (λ i. numbers_from xs (is-la i) (front i)) in
-      let inputs : b ≡ numbers_from xs (t * width s + 1) s.inputs = is_b ∙ (λ i. numbers_from xs (is-ia i) (back i)) in
-      let none : drop (s.latches + s.inputs - s.latches) (drop s.latches latched) ≡ [] =
-      drop_all (s.latches + s.inputs - s.latches) (drop s.latches latched) (omega (arith, length-drop s.latches latched)) in
-      (λ i. latches i ++ (inputs i ++ none i))
-      ∙ ap (λ (ys : List ℕ). numbers_from xs (t * width s + 1 + s.inputs) s.latches ++ ys) (append-nil (numbers_from xs (t * width s + 1) s.inputs))
 
 pub length_frame : (s : Sheet) (xs : List ℕ) (t : ℕ) → length (frame_numbers s xs t) ≡ s.latches + s.inputs
 length_frame s xs t =
@@ -172,11 +161,11 @@ pub run_told : (l c xs run run' : List ℕ) (last m n : ℕ) → c ≡ counted l
 run_told l c xs run run' last m n is formed first size room told =
     run_over c xs run run' last m n (ap (λ (y : List ℕ). well_formed y) is ∙ sym formed) first size room told ∙ ap (λ (y : List ℕ). run_off y xs last run) is
 
-pub off_told : (g : List ℕ → Written) (run part : List ℕ) (len : ℕ) (r : Result ℕ Fault) → len ≡ min (length run) (2 ^ 28) → ◌≡◌ {A = Written} (r, part) (g (take (len - 0) run))
-    → ◌≡◌ {A = Written} (r, part ++ post_of 0 (len - 0) run) (on_counted g run)
+pub off_told : (g : List ℕ → Written) (run part : List ℕ) (len : ℕ) (r : Result ℕ Fault) → len ≡ min (length run) (2 ^ 28) → ◌≡◌ {A = Written} (r, part) (g (take len run))
+    → ◌≡◌ {A = Written} (r, part ++ post_of 0 len run) (on_counted g run)
 off_told g run part len r cut e =
-    let front : take (len - 0) run ≡ counted run = take_min run (2 ^ 28) (len - 0) (omega arith) in
-    let rest : drop (len - 0) run ≡ uncounted run = drop_min run (2 ^ 28) (len - 0) (omega arith) in
+    let front : take len run ≡ counted run = take_min run (2 ^ 28) len (omega arith) in
+    let rest : drop len run ≡ uncounted run = drop_min run (2 ^ 28) len (omega arith) in
     let told : ◌≡◌ {A = Written} (r, part) (g (counted run)) = e ∙ ap g front in
     (λ i. ((told i).0, (told i).1 ++ rest i))
 

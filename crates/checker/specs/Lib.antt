@@ -1,4 +1,5 @@
 pub mod Lists
+pub mod Lent
 pub mod Opening
 pub mod Turns
 pub mod Calls

@@ -1,5 +1,5 @@
 -- What is read off a check that has ended. Assumes nothing.
-use Rattle.std.specs.Prelude.{ℕ, zero, suc, ◌+◌, ◌-◌, ◌*◌, Bool, cond, List, [], ◌∷◌, ◌++◌, map, length, take, replicate, Ok, Err, Result, nat_le, slice_index}
+use Rattle.std.specs.Prelude.{ℕ, zero, suc, ◌+◌, ◌-◌, ◌*◌, Bool, cond, List, [], ◌∷◌, ◌++◌, map, length, take, replicate, codes, Ok, Err, Result, nat_le, slice_index}
 use Rattle.std.specs.List.{range_with_len}
 use Rattle.lists.specs.Counted.{counted, on_counted}
 use Rattle.lists.specs.Stretch.{stretch}
@@ -13,20 +13,12 @@ use Rattle.sheet.specs.declared.fault.Layer.TheVariants.{ReadOff}
 use Rattle.machine.specs.Runs.{Frame}
 use Rattle.formula.specs.Formulas.{width}
 use Rattle.formula.specs.Framing.{in_frame}
-use Rattle.checker.specs.declared.Lack.{Lack}
-use Rattle.checker.specs.declared.Lack.TheVariants.{Formula, Question, LineValues}
 use Rattle.checker.specs.declared.End.{End}
 use Rattle.checker.specs.declared.End.TheVariants.{Safe, Run, Undecided, Spent, Short}
 use Rattle.checker.specs.declared.Ended.{Ended}
 use Rattle.checker.specs.declared.report.Verdict.{Verdict}
 use Rattle.checker.specs.declared.report.Verdict.TheVariants.{Safe as is-safe, Run as is-run, Undecided as is-undecided, Spent as is-spent, Short as is-short}
 use Rattle.checker.specs.declared.report.Report.{Report}
-
--- the number by which a list that was too short is named
-abbrev pub lack_number : Lack → ℕ
-lack_number Formula = 1
-lack_number Question = 2
-lack_number LineValues = 3
 
 -- ---- a run as numbers
 abbrev pub bit_number : Bool → ℕ
@@ -70,6 +62,14 @@ run_in s xs m run =
 abbrev pub run_off : List ℕ → List ℕ → ℕ → List ℕ → Result ℕ Fault × List ℕ
 run_off l xs last run =
     cond (well_formed l) (run_in (sheet_of l) xs (first_bad (sheet_of l) xs last 0) run) (Ok last, replicate (length run) 0)
+
+-- ---- how a verdict is written
+abbrev pub verdict_word : Verdict → List ℕ
+verdict_word is-safe = codes "safe"
+verdict_word (is-run m) = codes "run"
+verdict_word is-undecided = codes "undecided"
+verdict_word is-spent = codes "spent"
+verdict_word (is-short which) = codes "short"
 
 -- ---- the call
 abbrev pub reported : Verdict → Ended → Report

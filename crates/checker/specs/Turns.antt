@@ -38,6 +38,19 @@ next_bound k K = min (k + 1) K
 abbrev pub cut_short : Lack → Asked → Lists → Turned
 cut_short which a x = (Some (TooShort which), a, wiped x)
 
+-- what an end leaves of the lists
+abbrev pub left_by : End → Lists → Lists
+left_by (TooShort which) x = wiped x
+left_by Safe x = x
+left_by (Run last v) x = x
+left_by Undecided x = x
+left_by Spent x = x
+
+-- what a call tells: a question stands, or the check ends
+abbrev pub told : Result (Unit {0}) End → Asked → Lists → Turned
+told (Ok _) a x = (None, a, x)
+told (Err e) a x = (Some e, a, left_by e x)
+
 -- the check with a question of n numbers standing: its kind, the bound, and the region
 abbrev pub asking : Kind → ℕ → ℕ → Region → Asked → Asked
 asking kind n k r a =

@@ -1,5 +1,4 @@
-// The calls of a check. What each does stands in a private function, which has the equation; the public one adds what then holds over
-// a series of calls.
+// The calls of a check: what each does, and what then holds over a series of calls.
 ghost use Rattle.std.specs.Prelude.{◌≡◌, ◌+◌, ◌*◌, ◌≤◌, length};
 ghost use Rattle.lists.specs.Counted.{counted};
 ghost use Rattle.sheet.specs.Faults.{fault};
@@ -7,11 +6,12 @@ ghost use Rattle.sheet.specs.Sheets.{gate_count, Legal};
 ghost use Rattle.sheet.specs.declared.fault.Layer.TheVariants.{Open};
 ghost use Rattle.formula.specs.Built.{size_of_start, write_start};
 ghost use Rattle.checker.specs.Lists.{lists};
+ghost use Rattle.checker.specs.Lent.{held, SameLists};
 ghost use Rattle.checker.specs.Opening.{Opened, opened, start_made};
 ghost use Rattle.checker.specs.Calls.{handed_back, fetched, shown, weighed, taken, set_aside};
 ghost use Rattle.checker.specs.Promises.{Begins, ShowGoesOn, WeighGoesOn, TakeGoesOn, AsideGoesOn, ShownAnswers, TakenAnswers, FetchedStands, CountsTurns, ShownFewer, MovedFewer, WeighedSame};
 
-use crate::lent::{said_part, used_part};
+use crate::lent::{Lists, said_part, used_part};
 use crate::{Answer, Asked, Kind, Limits, Moved, Refused, Region, Weighed};
 use answer::assignments::satisfies;
 use answer::refutations::check_refutation;
@@ -55,58 +55,23 @@ fn begin(
     requires space { 10 + 10 * (gate_count (counted sheet.now) + size_of_start (counted sheet.now)) ≤ length (counted question.old) }
     ensures { ◌≡◌ {A = Opened} (result, formula.new, question.new) (start_made sheet.now limits.bound limits.turns formula.old question.old (write_start sheet.now formula.old)) }
 {
-    match start_formula(sheet, formula) {
-        None => Err(unopened(Cause::StartFormulaTooLong)),
-        Some(start) => {
-            match start_question(sheet, formula, start.count, start.literal, question) {
-                None => Err(unopened(Cause::StartQuestionTooLong)),
-                Some(size) => {
-                    let opening = Region {
-                        literal: start.literal,
-                        gates: start.count,
-                        grown: false,
-                    };
-                    Ok(Asked {
-                        kind: Kind::Start,
-                        size,
-                        bound: 0,
-                        region: opening,
-                        opening,
-                        limits,
-                        turns: 0,
-                    })
-                }
-            }
-        }
-    }
-}
-
-// Opens a check, once all is found right.
-fn open_check(
-    sheet: &[u32],
-    limits: Limits,
-    formula: &mut [u32],
-    question: &mut [u32],
-) -> Result<Asked, Fault>
-    ensures { ◌≡◌ {A = Opened} (result, formula.new, question.new) (opened sheet.now limits.bound limits.turns formula.old question.old) }
-{
-    if !is_legal(sheet) {
-        return Err(unopened(Cause::NotLegal));
-    }
-    if limits.bound > MOST_BOUND {
-        return Err(unopened(Cause::StepLimit));
-    }
-    if limits.turns == 0 {
-        return Err(unopened(Cause::TurnLimit));
-    }
-    let gates = start_size(sheet);
-    if counted_len(formula.len()) < 2 * gates as usize {
-        return Err(unopened(Cause::StartFormulaTooLong));
-    }
-    if counted_len(question.len()) < start_question_size(sheet, gates) {
-        return Err(unopened(Cause::StartQuestionTooLong));
-    }
-    begin(sheet, limits, formula, question)
+    let start = start_formula(sheet, formula).ok_or(unopened(Cause::StartFormulaTooLong))?;
+    let posed = start_question(sheet, formula, start.count, start.literal, question);
+    let size = posed.ok_or(unopened(Cause::StartQuestionTooLong))?;
+    let opening = Region {
+        literal: start.literal,
+        gates: start.count,
+        grown: false,
+    };
+    Ok(Asked {
+        kind: Kind::Start,
+        size,
+        bound: 0,
+        region: opening,
+        opening,
+        limits,
+        turns: 0,
+    })
 }
 
 impl Asked {
@@ -115,59 +80,6 @@ impl Asked {
         ensures { result ≡ handed_back self fault }
     {
         Refused { asked: self, fault }
-    }
-
-    // The count of answers.
-    fn count(&self) -> u32
-        ensures { result ≡ self.now.turns }
-    {
-        self.turns
-    }
-
-    // The question that stands, in its list.
-    fn standing<'a>(&self, question: &'a [u32]) -> &'a [u32]
-        ensures { result.now ≡ fetched self.now question.now }
-    {
-        used_part(question, self.size)
-    }
-
-    // Judges an assignment, and moves on if it satisfies the question.
-    fn judge_assignment(
-        self,
-        sheet: &[u32],
-        formula: &mut [u32],
-        values: &mut [u32],
-        question: &mut [u32],
-        assignment: &[u32],
-    ) -> Result<Moved, Refused>
-        ensures { (result, lists formula.new values.new question.new) ≡ shown sheet.now self assignment.now (lists formula.old values.old question.old) }
-    {
-        match satisfies(self.fetch(question), assignment) {
-            Ok(()) => Ok(self.moved(
-                Answer::Assignment,
-                sheet,
-                assignment,
-                formula,
-                values,
-                question,
-            )),
-            Err(fault) => Err(self.refused(fault)),
-        }
-    }
-
-    // Judges a refutation.
-    fn judge_refutation(
-        self,
-        question: &[u32],
-        refutation: &[u32],
-        work: &mut [u32],
-    ) -> Result<Weighed, Refused>
-        ensures { (result, work.new) ≡ weighed self question.now refutation.now work.old }
-    {
-        match check_refutation(self.fetch(question), refutation, work) {
-            Ok(()) => Ok(Weighed { asked: self }),
-            Err(fault) => Err(self.refused(fault)),
-        }
     }
 
     // Opens a check of a sheet: the start question stands. Refused, with nothing written, for a sheet list that reading does not
@@ -183,11 +95,27 @@ impl Asked {
         ensures opens_by_the_rules { ◌≡◌ {A = Opened} (result, formula.new, question.new) (opened sheet.now step_limit turn_limit formula.old question.old) }
         ensures a_series_begins { Begins sheet.now step_limit turn_limit result formula.new question.new }
     {
+        if !is_legal(sheet) {
+            return Err(unopened(Cause::NotLegal));
+        }
+        if step_limit > MOST_BOUND {
+            return Err(unopened(Cause::StepLimit));
+        }
+        if turn_limit == 0 {
+            return Err(unopened(Cause::TurnLimit));
+        }
+        let gates = start_size(sheet);
+        if counted_len(formula.len()) < 2 * gates as usize {
+            return Err(unopened(Cause::StartFormulaTooLong));
+        }
+        if counted_len(question.len()) < start_question_size(sheet, gates) {
+            return Err(unopened(Cause::StartQuestionTooLong));
+        }
         let limits = Limits {
             bound: step_limit,
             turns: turn_limit,
         };
-        open_check(sheet, limits, formula, question)
+        begin(sheet, limits, formula, question)
     }
 
     // How many answers were shown or taken so far.
@@ -195,7 +123,7 @@ impl Asked {
         ensures is_the_count { result ≡ self.now.turns }
         ensures counts_the_answers { CountsTurns self.now result }
     {
-        self.count()
+        self.turns
     }
 
     // The question that stands, where it lies.
@@ -203,7 +131,7 @@ impl Asked {
         ensures lends_the_question { result.now ≡ fetched self.now question.now }
         ensures asks_what_it_stands_for { FetchedStands self.now question.now result.now }
     {
-        self.standing(question)
+        used_part(question, self.size)
     }
 
     // Shows an assignment. If it satisfies the question the check moves on; else the check is handed back as it was.
@@ -220,7 +148,17 @@ impl Asked {
         ensures fewer_answers_are_left { ShownFewer self result }
         ensures answers_in_the_procedure { ShownAnswers sheet.now self assignment.now (lists formula.old line_values.old question.old) result (lists formula.new line_values.new question.new) }
     {
-        self.judge_assignment(sheet, formula, line_values, question, assignment)
+        match satisfies(self.fetch(question), assignment) {
+            Ok(()) => {
+                let mut lists = Lists {
+                    formula,
+                    values: line_values,
+                    question,
+                };
+                Ok(self.moved(Answer::Assignment, assignment, sheet, &mut lists))
+            }
+            Err(fault) => Err(self.refused(fault)),
+        }
     }
 
     // Weighs a refutation. If it is one the check is weighed; else it is handed back as it was, and the working list is zero.
@@ -234,40 +172,14 @@ impl Asked {
         ensures is_the_same_check { WeighedSame self result }
         ensures the_series_goes_on { WeighGoesOn self question.now refutation.now result }
     {
-        self.judge_refutation(question, refutation, work)
+        match check_refutation(self.fetch(question), refutation, work) {
+            Ok(()) => Ok(Weighed { asked: self }),
+            Err(fault) => Err(self.refused(fault)),
+        }
     }
 }
 
 impl Weighed {
-    // Moves on by the part of a refutation that it says it is.
-    fn moved(
-        self,
-        sheet: &[u32],
-        formula: &mut [u32],
-        values: &mut [u32],
-        question: &mut [u32],
-        refutation: &[u32],
-    ) -> Moved
-        ensures { (result, lists formula.new values.new question.new) ≡ taken sheet.now self refutation.now (lists formula.old values.old question.old) }
-    {
-        self.asked.moved(
-            Answer::Refutation,
-            sheet,
-            said_part(refutation),
-            formula,
-            values,
-            question,
-        )
-    }
-
-    // The check as it was asked.
-    fn returned(self) -> Asked
-        ensures { result ≡ set_aside self }
-    {
-        let Weighed { asked } = self;
-        asked
-    }
-
     // Takes the refutation that was weighed: the check moves on.
     pub fn take(
         self,
@@ -282,7 +194,14 @@ impl Weighed {
         ensures fewer_answers_are_left { MovedFewer self.asked result }
         ensures answers_in_the_procedure { TakenAnswers sheet.now self refutation.now (lists formula.old line_values.old question.old) result (lists formula.new line_values.new question.new) }
     {
-        self.moved(sheet, formula, line_values, question, refutation)
+        let mut lists = Lists {
+            formula,
+            values: line_values,
+            question,
+        };
+        let said = said_part(refutation);
+        self.asked
+            .moved(Answer::Refutation, said, sheet, &mut lists)
     }
 
     // Leaves the refutation, and returns to the question.
@@ -290,6 +209,7 @@ impl Weighed {
         ensures returns_to_the_question { result ≡ set_aside self }
         ensures the_series_goes_on { AsideGoesOn self result }
     {
-        self.returned()
+        let Weighed { asked } = self;
+        asked
     }
 }

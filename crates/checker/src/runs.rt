@@ -42,12 +42,9 @@ fn first_bad(sheet: &[u32], assignment: &[u32], last: u32) -> u32
     requires few { length assignment.now ≤ 2 ^ 28 }
     ensures { result ≡ first_bad (sheet_of sheet.now) assignment.now last 0 }
 {
-    for frame in 0..last {
-        if is_bad(sheet, assignment, frame) {
-            return frame;
-        }
-    }
-    last
+    (0..last)
+        .find(|frame| is_bad(sheet, assignment, *frame))
+        .unwrap_or(last)
 }
 
 // How many numbers a run of so many steps has.
@@ -68,17 +65,6 @@ fn copy_from(list: &[u32], from: usize, part: &mut [u32])
     }
 }
 
-// Where the latches of a frame stand in an assignment, and where its inputs do.
-fn frame_places(sheet: &[u32], frame: u32) -> (usize, usize)
-    requires { Legal sheet.now }
-    ensures latches { result.0 ≡ frame * width (sheet_of sheet.now) + 1 + input_count sheet.now }
-    ensures inputs { result.1 ≡ frame * width (sheet_of sheet.now) + 1 }
-    ensures is_low { result.0 + 2 ^ 32 < 2 ^ 64 }
-{
-    let inputs = frame as usize * node_count(sheet) as usize + 1;
-    (inputs + sheet[0] as usize, inputs)
-}
-
 // Writes a frame: its latches, then its inputs.
 fn write_frame(sheet: &[u32], assignment: &[u32], frame: u32, part: &mut [u32])
     requires legal { Legal sheet.now }
@@ -87,9 +73,11 @@ fn write_frame(sheet: &[u32], assignment: &[u32], frame: u32, part: &mut [u32])
 {
     let latches = sheet[1] as usize;
     let inputs = sheet[0] as usize;
-    let (latches_at, inputs_at) = frame_places(sheet, frame);
-    copy_from(assignment, latches_at, &mut part[0..latches]);
-    copy_from(assignment, inputs_at, &mut part[latches..latches + inputs]);
+    let inputs_at = frame as usize * node_count(sheet) as usize + 1;
+    let latches_at = inputs_at + inputs;
+    let (state, input) = part.split_at_mut(latches);
+    copy_from(assignment, latches_at, state);
+    copy_from(assignment, inputs_at, input);
 }
 
 // Writes the frames 0 to `steps`, with zeros behind them.
@@ -105,8 +93,7 @@ fn write_run(sheet: &[u32], assignment: &[u32], steps: u32, run: &mut [u32])
         write_frame(sheet, assignment, frame, &mut run[at..at + size]);
     }
     let end = run_size(sheet, steps);
-    let len = run.len();
-    run[end..len].fill(0);
+    run[end..].fill(0);
 }
 
 // The run, where every place of the lists counts.
@@ -145,5 +132,5 @@ pub(crate) fn run_off(
     ensures { (result, run.new) ≡ on_counted (run_off (counted sheet.now) assignment.now last) run.old }
 {
     let len = counted_len(run.len());
-    run_in(sheet, assignment, last, &mut run[0..len])
+    run_in(sheet, assignment, last, &mut run[..len])
 }

@@ -1,11 +1,10 @@
 // What an answer that was accepted leads to.
 ghost use Rattle.std.specs.Prelude.{◌≡◌};
-ghost use Rattle.formula.specs.Built.{built};
-ghost use Rattle.formula.specs.Conjunction.{disjoin};
-ghost use Rattle.checker.specs.Lists.{lists, restored};
-ghost use Rattle.checker.specs.Turns.{Turned, next_bound, path_asked, inclusion_asked, lack_of, drawn, grown_by, deepened, turned, moved_by};
+ghost use Rattle.checker.specs.declared.End.TheVariants.{Short as TooShort};
+ghost use Rattle.checker.specs.Lent.{held, SameLists};
+ghost use Rattle.checker.specs.Turns.{next_bound, told, path_asked, inclusion_asked, lack_of, drawn, grown_by, deepened, turned, moved_by};
 
-use crate::lent::{restore, used_part, width, wipe};
+use crate::lent::{Lists, used_part, width};
 use crate::policy::next_bound;
 use crate::{Answer, Asked, End, Ended, Kind, Lack, Moved, Region};
 use formula::builder::Builder;
@@ -15,48 +14,46 @@ use question::read::variable_count;
 use sheet::literal::Literal;
 
 // Which of a check's lists a drawing had no room in.
-fn lack_of(short: Short) -> Lack
-    ensures { result ≡ lack_of short }
-{
-    match short {
-        Short::LineValues => Lack::LineValues,
-        Short::Formula => Lack::Formula,
+impl From<Short> for Lack {
+    ghost from_gives = { λ short lack. lack ≡ lack_of short };
+
+    fn from(short: Short) -> Lack {
+        match short {
+            Short::LineValues => Lack::LineValues,
+            Short::Formula => Lack::Formula,
+        }
+    }
+}
+
+impl From<Short> for End {
+    ghost from_gives = { λ short end. end ≡ TooShort (lack_of short) };
+
+    fn from(short: Short) -> End {
+        End::Short(short.into())
     }
 }
 
 impl Asked {
-    // Asks the path question of a region at a bound. If it does not fit the lists are cleared, and the bound and the region stay.
+    // Asks the path question of a region at a bound. If it does not fit, the bound and the region stay.
     fn ask_path(
         &mut self,
         bound: u32,
         region: Region,
         sheet: &[u32],
-        formula: &mut [u32],
-        values: &mut [u32],
-        question: &mut [u32],
-    ) -> Option<End>
-        ensures { ◌≡◌ {A = Turned} (result, self.new, lists formula.new values.new question.new) (path_asked sheet.now self.old bound region (lists formula.old values.old question.old)) }
+        lists: &mut Lists<'_>,
+    ) -> Result<(), End>
+        ensures asks { told result self.new (held lists.new) ≡ path_asked sheet.now self.old bound region (held lists.old) }
+        ensures same_lists { SameLists lists.old lists.new }
     {
-        match path_question(
-            sheet,
-            formula,
-            region.gates,
-            region.literal,
-            bound,
-            question,
-        ) {
-            Some(size) => {
-                self.kind = Kind::Path;
-                self.size = size;
-                self.bound = bound;
-                self.region = region;
-                None
-            }
-            None => {
-                wipe(formula, values, question);
-                Some(End::Short(Lack::Question))
-            }
-        }
+        let Region { literal, gates, .. } = region;
+        let formula = &mut *lists.formula;
+        let question = &mut *lists.question;
+        let posed = path_question(sheet, formula, gates, literal, bound, question);
+        self.size = posed.ok_or(End::Short(Lack::Question))?;
+        self.kind = Kind::Path;
+        self.bound = bound;
+        self.region = region;
+        Ok(())
     }
 
     // Asks whether a state in what was drawn lies outside R.
@@ -64,160 +61,97 @@ impl Asked {
         &mut self,
         drawn: Drawn,
         sheet: &[u32],
-        formula: &mut [u32],
-        values: &mut [u32],
-        question: &mut [u32],
-    ) -> Option<End>
-        ensures { ◌≡◌ {A = Turned} (result, self.new, lists formula.new values.new question.new) (inclusion_asked sheet.now self.old drawn (lists formula.old values.old question.old)) }
+        lists: &mut Lists<'_>,
+    ) -> Result<(), End>
+        ensures asks { told result self.new (held lists.new) ≡ inclusion_asked sheet.now self.old drawn (held lists.old) }
+        ensures same_lists { SameLists lists.old lists.new }
     {
         let (inside, outside) = (drawn.literal, self.region.literal);
-        match inclusion_question(sheet, formula, drawn.gates, inside, outside, question) {
-            Some(size) => {
-                self.kind = Kind::Inclusion(drawn.literal);
-                self.size = size;
-                self.region.gates = drawn.gates;
-                None
-            }
-            None => {
-                wipe(formula, values, question);
-                Some(End::Short(Lack::Question))
-            }
-        }
+        let formula = &mut *lists.formula;
+        let question = &mut *lists.question;
+        let posed = inclusion_question(sheet, formula, drawn.gates, inside, outside, question);
+        self.size = posed.ok_or(End::Short(Lack::Question))?;
+        self.kind = Kind::Inclusion(drawn.literal);
+        self.region.gates = drawn.gates;
+        Ok(())
     }
 
     // Draws the interpolant of a refutation of the path question, and asks whether it holds more than R.
-    fn draw(
-        &mut self,
-        sheet: &[u32],
-        refutation: &[u32],
-        formula: &mut [u32],
-        values: &mut [u32],
-        question: &mut [u32],
-    ) -> Option<End>
-        ensures { ◌≡◌ {A = Turned} (result, self.new, lists formula.new values.new question.new) (drawn sheet.now self.old refutation.now (lists formula.old values.old question.old)) }
+    fn draw(&mut self, refutation: &[u32], sheet: &[u32], lists: &mut Lists<'_>) -> Result<(), End>
+        ensures asks { told result self.new (held lists.new) ≡ drawn sheet.now self.old refutation.now (held lists.old) }
+        ensures same_lists { SameLists lists.old lists.new }
     {
+        let question = &mut *lists.question;
         let asked = used_part(question, self.size);
-        match interpolate(sheet, asked, refutation, formula, self.region.gates, values) {
-            Ok(drawn) => self.ask_inclusion(drawn, sheet, formula, values, question),
-            Err(short) => {
-                wipe(formula, values, question);
-                Some(End::Short(lack_of(short)))
-            }
-        }
-    }
-
-    // R OR P.
-    fn joined(&self, drawn: Literal, builder: &mut Builder, formula: &mut [u32]) -> Option<Literal>
-        ensures { (result, builder.new, formula.new) ≡ built builder.old formula.old (disjoin builder.old.width builder.old.count formula.old self.now.region.literal.0 drawn.0) }
-    {
-        builder.or(formula, self.region.literal, drawn)
+        let formula = &mut *lists.formula;
+        let values = &mut *lists.values;
+        let drawn = interpolate(sheet, asked, refutation, formula, self.region.gates, values)?;
+        self.ask_inclusion(drawn, sheet, lists)
     }
 
     // R becomes R OR P, and the path question is asked of it.
-    fn grow(
-        &mut self,
-        drawn: Literal,
-        sheet: &[u32],
-        formula: &mut [u32],
-        values: &mut [u32],
-        question: &mut [u32],
-    ) -> Option<End>
-        ensures { ◌≡◌ {A = Turned} (result, self.new, lists formula.new values.new question.new) (grown_by sheet.now self.old drawn (lists formula.old values.old question.old)) }
+    fn grow(&mut self, drawn: Literal, sheet: &[u32], lists: &mut Lists<'_>) -> Result<(), End>
+        ensures asks { told result self.new (held lists.new) ≡ grown_by sheet.now self.old drawn (held lists.old) }
+        ensures same_lists { SameLists lists.old lists.new }
     {
         let mut builder = Builder {
             width: width(sheet),
             count: self.region.gates,
         };
-        match self.joined(drawn, &mut builder, formula) {
-            Some(literal) => {
-                let region = Region {
-                    literal,
-                    gates: builder.count,
-                    grown: true,
-                };
-                self.ask_path(self.bound, region, sheet, formula, values, question)
-            }
-            None => {
-                wipe(formula, values, question);
-                Some(End::Short(Lack::Formula))
-            }
-        }
-    }
-
-    // Puts the formula list back as it was opened, and gives the next bound.
-    fn reopened(&self, formula: &mut [u32]) -> u32
-        ensures is_the_next_bound { result ≡ next_bound self.now.bound self.now.limits.bound }
-        ensures is_as_opened { formula.new ≡ restored self.now.opening.gates formula.old }
-    {
-        restore(formula, self.opening.gates);
-        next_bound(self.bound, self.limits.bound)
+        let formula = &mut *lists.formula;
+        let Some(literal) = builder.or(formula, self.region.literal, drawn) else {
+            return Err(End::Short(Lack::Formula));
+        };
+        let region = Region {
+            literal,
+            gates: builder.count,
+            grown: true,
+        };
+        self.ask_path(self.bound, region, sheet, lists)
     }
 
     // Raises the bound, with R and the formula list as they were opened.
-    fn deepen(
-        &mut self,
-        sheet: &[u32],
-        formula: &mut [u32],
-        values: &mut [u32],
-        question: &mut [u32],
-    ) -> Option<End>
-        ensures { ◌≡◌ {A = Turned} (result, self.new, lists formula.new values.new question.new) (deepened sheet.now self.old (lists formula.old values.old question.old)) }
+    fn deepen(&mut self, sheet: &[u32], lists: &mut Lists<'_>) -> Result<(), End>
+        ensures asks { told result self.new (held lists.new) ≡ deepened sheet.now self.old (held lists.old) }
+        ensures same_lists { SameLists lists.old lists.new }
     {
-        let bound = self.reopened(formula);
-        self.ask_path(bound, self.opening, sheet, formula, values, question)
+        lists.restore(self.opening.gates);
+        let bound = next_bound(self.bound, self.limits.bound);
+        self.ask_path(bound, self.opening, sheet, lists)
     }
 
-    // One turn, in place: the end, if the check ends with it.
+    // One turn, in place. An `Err` is the end of the check.
     fn turn(
         &mut self,
         answer: Answer,
-        sheet: &[u32],
         refutation: &[u32],
-        formula: &mut [u32],
-        values: &mut [u32],
-        question: &mut [u32],
-    ) -> Option<End>
-        ensures { ◌≡◌ {A = Turned} (result, self.new, lists formula.new values.new question.new) (turned answer sheet.now self.old refutation.now (lists formula.old values.old question.old)) }
+        sheet: &[u32],
+        lists: &mut Lists<'_>,
+    ) -> Result<(), End>
+        ensures turns { told result self.new (held lists.new) ≡ turned answer sheet.now self.old refutation.now (held lists.old) }
+        ensures same_lists { SameLists lists.old lists.new }
     {
         self.turns = self.turns.saturating_add(1);
+        let question = &mut *lists.question;
         let variables = variable_count(question);
         let is_spent = self.turns >= self.limits.turns;
         match (self.kind, answer) {
-            (Kind::Start, Answer::Assignment) => Some(End::Run { last: 0, variables }),
+            (Kind::Start, Answer::Assignment) => Err(End::Run { last: 0, variables }),
+            (Kind::Path, Answer::Assignment) if !self.region.grown => {
+                let last = self.bound.saturating_add(1);
+                Err(End::Run { last, variables })
+            }
+            (Kind::Path, Answer::Assignment) if self.bound == self.limits.bound => {
+                Err(End::Undecided)
+            }
+            (Kind::Inclusion(_), Answer::Refutation) => Err(End::Safe),
+            _ if is_spent => Err(End::Spent),
             (Kind::Start, Answer::Refutation) => {
-                if is_spent {
-                    return Some(End::Spent);
-                }
-                self.ask_path(self.bound, self.region, sheet, formula, values, question)
+                self.ask_path(self.bound, self.region, sheet, lists)
             }
-            (Kind::Path, Answer::Assignment) => {
-                if !self.region.grown {
-                    return Some(End::Run {
-                        last: self.bound.saturating_add(1),
-                        variables,
-                    });
-                }
-                if self.bound == self.limits.bound {
-                    return Some(End::Undecided);
-                }
-                if is_spent {
-                    return Some(End::Spent);
-                }
-                self.deepen(sheet, formula, values, question)
-            }
-            (Kind::Path, Answer::Refutation) => {
-                if is_spent {
-                    return Some(End::Spent);
-                }
-                self.draw(sheet, refutation, formula, values, question)
-            }
-            (Kind::Inclusion(drawn), Answer::Assignment) => {
-                if is_spent {
-                    return Some(End::Spent);
-                }
-                self.grow(drawn, sheet, formula, values, question)
-            }
-            (Kind::Inclusion(_), Answer::Refutation) => Some(End::Safe),
+            (Kind::Path, Answer::Refutation) => self.draw(refutation, sheet, lists),
+            (Kind::Path, Answer::Assignment) => self.deepen(sheet, lists),
+            (Kind::Inclusion(drawn), Answer::Assignment) => self.grow(drawn, sheet, lists),
         }
     }
 
@@ -225,21 +159,23 @@ impl Asked {
     pub(crate) fn moved(
         mut self,
         answer: Answer,
-        sheet: &[u32],
         refutation: &[u32],
-        formula: &mut [u32],
-        values: &mut [u32],
-        question: &mut [u32],
+        sheet: &[u32],
+        lists: &mut Lists<'_>,
     ) -> Moved
-        ensures { (result, lists formula.new values.new question.new) ≡ moved_by answer sheet.now self refutation.now (lists formula.old values.old question.old) }
+        ensures moves { (result, held lists.new) ≡ moved_by answer sheet.now self refutation.now (held lists.old) }
+        ensures same_lists { SameLists lists.old lists.new }
     {
-        match self.turn(answer, sheet, refutation, formula, values, question) {
-            None => Moved::Asked(self),
-            Some(end) => Moved::Ended(Ended {
-                end,
-                bound: self.bound,
-                turns: self.turns,
-            }),
+        match self.turn(answer, refutation, sheet, lists) {
+            Ok(()) => Moved::Asked(self),
+            Err(end) => {
+                lists.leave(end);
+                Moved::Ended(Ended {
+                    end,
+                    bound: self.bound,
+                    turns: self.turns,
+                })
+            }
         }
     }
 }

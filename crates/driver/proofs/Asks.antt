@@ -1,5 +1,5 @@
 -- One question asked, from what the calls ensure. Assumes nothing.
-use Rattle.std.proofs.Common.{◌≡◌, ℕ, ◌<◌, Bool, List, take, Ok, Err, Result, sym, ap, ◌∙◌, subst}
+use Rattle.std.proofs.Common.{◌≡◌, ℕ, Bool, List, take, Ok, Err, Result, sym, ap, ◌∙◌, subst}
 use Rattle.lists.specs.Counted.{counted}
 use Rattle.question.specs.Questions.{variable_count}
 use Rattle.producer.specs.Replying.{Replies, KeepsWord}
@@ -8,11 +8,10 @@ use Rattle.producer.specs.declared.interface.Reply.TheVariants.{Assignment, Refu
 use Rattle.checker.specs.declared.Asked.{Asked}
 use Rattle.checker.specs.declared.Weighed.{Weighed}
 use Rattle.checker.specs.declared.Moved.{Moved}
-use Rattle.checker.specs.declared.Moved.TheVariants.{Asked as goes_on}
 use Rattle.checker.specs.declared.Refused.{Refused}
 use Rattle.checker.specs.Lists.{Lists}
 use Rattle.checker.specs.Calls.{fetched, shown, weighed, taken}
-use Rattle.checker.specs.Promises.{answers_left, MovedFewer, ShownFewer}
+use Rattle.checker.specs.Promises.{MovedFewer, ShownFewer}
 use Rattle.driver.specs.Driving.{Marked, Turn, assignment_in, weighed_turn, answered, Asking}
 
 pub asked_by : {S : Type 0} (R : Replies S) (honest : Bool) (l : List ℕ) (a : Asked) (x : Lists) (b w : List ℕ) (s : S) (reply : Reply) (lent b' v : List ℕ) (s' : S)
@@ -53,6 +52,3 @@ unweighed_by l a x b v r w' e = ap (λ (p : Result Weighed Refused × List ℕ).
 -- ---- a check that goes on may be given fewer answers
 pub taken_left : (a : Asked) (d : Weighed) (m : Moved) → d.asked ≡ a → MovedFewer d.asked m → ShownFewer a (Ok m)
 taken_left a d m same fewer = subst (λ (c : Asked). MovedFewer c m) same fewer
-
-pub moved_left : (a : Asked) (m : Moved) (b : Asked) → m ≡ goes_on b → ShownFewer a (Ok m) → answers_left b < answers_left a
-moved_left a m b is fewer = subst (λ (n : Moved). MovedFewer a n) is fewer

@@ -10,12 +10,12 @@ use Rattle.sheet.specs.Sheets.{input_count, latch_count}
 use Rattle.sheet.specs.Faults.{cause_number}
 use Rattle.sheet.proofs.Causes.{number_small}
 use Rattle.sheet.specs.declared.fault.Fault.{Fault}
-use Rattle.checker.specs.Reports.{numbers_from}
+use Rattle.checker.specs.Reports.{numbers_from, verdict_word}
 use Rattle.checker.specs.declared.Lack.TheVariants.{Formula}
 use Rattle.checker.specs.declared.report.Report.{Report}
 use Rattle.checker.specs.declared.report.Verdict.{Verdict}
 use Rattle.checker.specs.declared.report.Verdict.TheVariants.{Safe, Run, Undecided, Spent, Short}
-use Rattle.driver.specs.Texts.{verdict_word, numbers_text, line_text, frame_text, frames_text, run_text, ended_text, fault_text, as_told, TellsReport, TellsFault}
+use Rattle.driver.specs.Texts.{numbers_text, line_text, frame_text, frames_text, run_text, ended_text, fault_text, as_told, TellsReport, TellsFault}
 
 -- ---- the bytes of a number lie above the space and the line's end
 abbrev High : List ℕ → Type 0

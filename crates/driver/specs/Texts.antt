@@ -6,18 +6,11 @@ use Rattle.sheet.specs.Faults.{cause_number, fault_words}
 use Rattle.sheet.specs.declared.fault.Fault.{Fault}
 use Rattle.machine.specs.Runs.{Frame}
 use Rattle.checker.specs.Points.{sheet_in}
-use Rattle.checker.specs.Reports.{bit_number, run_written, numbers_from}
+use Rattle.checker.specs.Reports.{bit_number, run_written, numbers_from, verdict_word}
 use Rattle.checker.specs.declared.Lack.TheVariants.{Formula}
 use Rattle.checker.specs.declared.report.Verdict.{Verdict}
 use Rattle.checker.specs.declared.report.Verdict.TheVariants.{Safe, Run, Undecided, Spent, Short}
 use Rattle.checker.specs.declared.report.Report.{Report}
-
-abbrev pub verdict_word : Verdict → List ℕ
-verdict_word Safe = codes "safe"
-verdict_word (Run m) = codes "run"
-verdict_word Undecided = codes "undecided"
-verdict_word Spent = codes "spent"
-verdict_word (Short which) = codes "short"
 
 -- each number after one space, and the line's end
 abbrev pub numbers_text : List ℕ → List ℕ

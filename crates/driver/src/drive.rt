@@ -3,7 +3,8 @@ ghost use Rattle.std.specs.Prelude.{◌≡◌, ℕ, take};
 ghost use Rattle.checker.specs.Lists.{lists};
 ghost use Rattle.checker.specs.Promises.{ShownFewer};
 ghost use Rattle.checker.specs.Series.{at_asked, Series};
-ghost use Rattle.driver.specs.Driving.{Marked, Turn, Asking, Driven, unanswered, answered};
+ghost use Rattle.driver.specs.Driving.{Marked, Asking, Driven, unanswered};
+ghost use Rattle.driver.specs.declared.drive.Stopped.TheVariants.{Unopened, Refused as StoppedAt};
 ghost use Rattle.driver.specs.Guarantee.{DriveIsOne, RunIsOne, Guarantee};
 
 use checker::{Asked, Ended, Moved, Refused};
@@ -19,11 +20,27 @@ pub enum Stopped {
     Refused(Refused),
 }
 
+impl From<Fault> for Stopped {
+    ghost from_gives = { λ fault stopped. stopped ≡ Unopened fault };
+
+    fn from(fault: Fault) -> Stopped {
+        Stopped::Unopened(fault)
+    }
+}
+
+impl From<Refused> for Stopped {
+    ghost from_gives = { λ refused stopped. stopped ≡ StoppedAt refused };
+
+    fn from(refused: Refused) -> Stopped {
+        Stopped::Refused(refused)
+    }
+}
+
 // The first places of a list, as far as there are any.
 fn front(list: &[u32], size: u32) -> &[u32]
     ensures { result.now ≡ take size list.now }
 {
-    &list[0..list.len().min(size as usize)]
+    &list[..list.len().min(size as usize)]
 }
 
 // The producer gave no answer.
@@ -38,35 +55,7 @@ fn unanswered(asked: Asked) -> Refused
     Refused { asked, fault }
 }
 
-// Shows what was answered, or weighs and takes it.
-fn respond(
-    asked: Asked,
-    reply: Reply,
-    sheet: &[u32],
-    formula: &mut [u32],
-    line_values: &mut [u32],
-    question: &mut [u32],
-    answer: &[u32],
-    work: &mut [u32],
-) -> Result<Moved, Refused>
-    ensures comes_of_the_reply { ◌≡◌ {A = Turn} (result, lists formula.new line_values.new question.new, work.new) (answered sheet.now asked reply answer.now work.old (lists formula.old line_values.old question.old)) }
-    ensures fewer_answers_are_left { ShownFewer asked result }
-{
-    match reply {
-        Reply::Assignment => {
-            let variables = variable_count(asked.fetch(question));
-            let assignment = front(counted(answer), variables);
-            asked.show(sheet, formula, line_values, question, assignment)
-        }
-        Reply::Refutation => match asked.weigh(question, answer, work) {
-            Ok(weighed) => Ok(weighed.take(sheet, formula, line_values, question, answer)),
-            Err(refused) => Err(refused),
-        },
-        Reply::TooLong => Err(unanswered(asked)),
-    }
-}
-
-// Asks the producer once.
+// Asks the producer once, and shows what it answered, or weighs and takes it.
 fn ask<P: Producer>(
     asked: Asked,
     producer: &mut P,
@@ -81,49 +70,17 @@ fn ask<P: Producer>(
     ensures fewer_answers_are_left { ShownFewer asked result }
 {
     let reply = producer.answer(asked.fetch(question), answer, work);
-    respond(
-        asked,
-        reply,
-        sheet,
-        formula,
-        line_values,
-        question,
-        answer,
-        work,
-    )
-}
-
-// Asks while a question stands.
-fn ask_on<P: Producer>(
-    asked: Asked,
-    producer: &mut P,
-    sheet: &[u32],
-    formula: &mut [u32],
-    line_values: &mut [u32],
-    question: &mut [u32],
-    answer: &mut [u32],
-    work: &mut [u32],
-) -> Result<Ended, Refused>
-    ensures { Driven (Marked P.Producer.replies P.Producer.honest) sheet.now asked (lists formula.old line_values.old question.old) answer.old work.old producer.old result (lists formula.new line_values.new question.new) answer.new work.new producer.new }
-{
-    let mut asked = asked;
-    loop {
-        match ask(
-            asked,
-            producer,
-            sheet,
-            formula,
-            line_values,
-            question,
-            answer,
-            work,
-        ) {
-            Ok(moved) => match moved {
-                Moved::Asked(next) => asked = next,
-                Moved::Ended(ended) => return Ok(ended),
-            },
-            Err(refused) => return Err(refused),
+    match reply {
+        Reply::Assignment => {
+            let variables = variable_count(asked.fetch(question));
+            let assignment = front(counted(answer), variables);
+            asked.show(sheet, formula, line_values, question, assignment)
         }
+        Reply::Refutation => {
+            let weighed = asked.weigh(question, answer, work)?;
+            Ok(weighed.take(sheet, formula, line_values, question, answer))
+        }
+        Reply::TooLong => Err(unanswered(asked)),
     }
 }
 
@@ -141,48 +98,21 @@ pub fn drive<P: Producer>(
     ensures is_driven { Driven (Marked P.Producer.replies P.Producer.honest) sheet.now asked (lists formula.old line_values.old question.old) answer.old work.old producer.old result (lists formula.new line_values.new question.new) answer.new work.new producer.new }
     ensures the_guarantee { (K Q n : ℕ) → Series sheet.now K Q (at_asked asked) (lists formula.old line_values.old question.old) n → Guarantee P.Producer.replies P.Producer.honest sheet.now K Q (DriveIsOne (Marked P.Producer.replies P.Producer.honest) sheet.now K Q asked (lists formula.old line_values.old question.old) answer.old work.old producer.old result (lists formula.new line_values.new question.new) answer.new work.new producer.new) }
 {
-    ask_on(
-        asked,
-        producer,
-        sheet,
-        formula,
-        line_values,
-        question,
-        answer,
-        work,
-    )
-}
-
-// Opens a check and drives it.
-fn open_and_drive<P: Producer>(
-    sheet: &[u32],
-    step_limit: u32,
-    turn_limit: u32,
-    producer: &mut P,
-    formula: &mut [u32],
-    line_values: &mut [u32],
-    question: &mut [u32],
-    answer: &mut [u32],
-    work: &mut [u32],
-) -> Result<Ended, Stopped>
-    ensures { RunIsOne (Marked P.Producer.replies P.Producer.honest) sheet.now step_limit turn_limit (lists formula.old line_values.old question.old) answer.old work.old producer.old result (lists formula.new line_values.new question.new) answer.new work.new producer.new }
-{
-    let asked = match Asked::open(sheet, step_limit, turn_limit, formula, question) {
-        Ok(asked) => asked,
-        Err(fault) => return Err(Stopped::Unopened(fault)),
-    };
-    match drive(
-        asked,
-        producer,
-        sheet,
-        formula,
-        line_values,
-        question,
-        answer,
-        work,
-    ) {
-        Ok(ended) => Ok(ended),
-        Err(refused) => Err(Stopped::Refused(refused)),
+    let mut asked = asked;
+    loop {
+        match ask(
+            asked,
+            producer,
+            sheet,
+            formula,
+            line_values,
+            question,
+            answer,
+            work,
+        )? {
+            Moved::Asked(next) => asked = next,
+            Moved::Ended(ended) => return Ok(ended),
+        }
     }
 }
 
@@ -200,15 +130,16 @@ pub fn run<P: Producer>(
 ) -> Result<Ended, Stopped>
     ensures the_guarantee { Guarantee P.Producer.replies P.Producer.honest sheet.now step_limit turn_limit (RunIsOne (Marked P.Producer.replies P.Producer.honest) sheet.now step_limit turn_limit (lists formula.old line_values.old question.old) answer.old work.old producer.old result (lists formula.new line_values.new question.new) answer.new work.new producer.new) }
 {
-    open_and_drive(
-        sheet,
-        step_limit,
-        turn_limit,
+    let asked = Asked::open(sheet, step_limit, turn_limit, formula, question)?;
+    let ended = drive(
+        asked,
         producer,
+        sheet,
         formula,
         line_values,
         question,
         answer,
         work,
-    )
+    )?;
+    Ok(ended)
 }

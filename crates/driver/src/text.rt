@@ -3,7 +3,7 @@ ghost use Rattle.std.specs.Prelude.{◌≡◌, suc, ◌++◌, drop, IfOk, string
 ghost use Rattle.lists.specs.Counted.{counted};
 ghost use Rattle.sheet.specs.Sheets.{input_count, latch_count};
 ghost use Rattle.checker.specs.Reports.{numbers_from};
-ghost use Rattle.driver.specs.Texts.{verdict_word, line_text, report_text, frames_text, run_text, ended_text, fault_text, TellsReport, TellsFault, ShowsRun};
+ghost use Rattle.driver.specs.Texts.{line_text, frames_text, run_text, ended_text, fault_text, TellsReport, TellsFault, ShowsRun};
 
 use checker::report::{Report, Verdict};
 use lists::counted;
@@ -16,26 +16,6 @@ fn behind(list: &[u32], count: u32) -> &[u32]
     ensures { result.now ≡ drop count list.now }
 {
     &list[list.len().min(count as usize)..]
-}
-
-fn verdict_word(verdict: Verdict) -> &'static str
-    ensures { result.now ≡ verdict_word verdict }
-{
-    match verdict {
-        Verdict::Safe => "safe",
-        Verdict::Run { .. } => "run",
-        Verdict::Undecided => "undecided",
-        Verdict::Spent => "spent",
-        Verdict::Short(_) => "short",
-    }
-}
-
-// The line of a report.
-fn report_text(heap: Global, report: Report) -> Result<String, AllocError>
-    ensures { IfOk result (λ s. string_bytes s ≡ report_text report) }
-{
-    let word = verdict_word(report.verdict);
-    format!(in heap; "{word} {} {}\n", report.bound, report.turns)
 }
 
 // Adds a line: a word, and the first `count` numbers of a list.
@@ -101,7 +81,7 @@ pub fn ended_text(
     ensures tells_the_report { IfOk result (λ s. TellsReport report (string_bytes s)) }
     ensures shows_each_frame { IfOk result (λ s. ShowsRun report sheet.now run.now (string_bytes s)) }
 {
-    let mut text = report_text(heap, report)?;
+    let mut text = format!(in heap; "{} {} {}\n", report.verdict, report.bound, report.turns)?;
     write_run(&mut text, report.verdict, sheet, run)?;
     Ok(text)
 }

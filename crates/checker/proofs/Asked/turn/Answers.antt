@@ -1,9 +1,12 @@
-use Rattle.checker.specs.Lists.{lists}
-use Rattle.checker.proofs.Turning.{start_met}
+use Rattle.std.proofs.Common.{rules}
 use Rattle.checker.proofs.Asked.turn.Goals as goal
+use Rattle.checker.proofs.Asked.turn.Goals.{in_default-via-in-Start+in-Refutation, in_default-via-in-Path-Assignment-2+else-self, in_default-via-in-Path+in-Refutation, in_default-via-in-Inclusion+in-Assignment}
 
-pub returns-in-Start-Assignment : goal.returns-in-Start-Assignment
-returns-in-Start-Assignment c =
-    start_met c.args.answer c.args.sheet.now c.args.self.now c.args.refutation.now
-    (lists c.args.formula.now c.args.values.now c.args.question.now) c.saturating_add-self.result c.variable_count-variables.result
-    c.in-Start-Assignment.is-0 c.in-Start-Assignment.is-1 c.saturating_add-self.ensures c.variable_count-variables.ensures.is_the_first_number
+pub returns-in_default-clause-turns : goal.returns-in_default-clause-turns
+returns-in_default-clause-turns c =
+    elim c.in_default.branch [
+      | in_default-via-in-Start+in-Refutation w ↦ search rules
+      | in_default-via-in-Path-Assignment-2+else-self w ↦ search rules
+      | in_default-via-in-Path+in-Refutation w ↦ search rules
+      | in_default-via-in-Inclusion+in-Assignment w ↦ search rules
+    ]

@@ -1,21 +1,23 @@
-use Rattle.std.proofs.Common.{arith}
-use Rattle.checker.specs.Lists.{Lists, lists}
+use Rattle.std.proofs.Common.{arith, rules}
+use Rattle.checker.specs.Lists.{lists}
 use Rattle.checker.proofs.Going.{by_taken}
 use Rattle.checker.proofs.Promising.{by_take, taken_answers}
 use Rattle.checker.proofs.Weighed.take.Goals as goal
 
-pub returns : goal.returns
-returns c =
-    let l = c.args.sheet.now in
-    let d = c.args.self in
-    let t = c.args.refutation.now in
-    let x : Lists = lists c.args.formula.now c.args.line_values.now c.args.question.now in
-    let x' : Lists = lists c.moved.new.formula c.moved.new.values c.moved.new.question in
-    let m = c.moved.result in
-    let is = c.moved.ensures in
-    record {
-      moves_by_the_rules = is;
-      the_series_goes_on = by_take l d t x m x' is;
-      fewer_answers_are_left = by_taken l d t x m x' (grind arith) is;
-      answers_in_the_procedure = taken_answers l d t x m x' is;
-    }
+pub returns-clause-moves_by_the_rules : goal.returns-clause-moves_by_the_rules
+returns-clause-moves_by_the_rules c = search rules
+
+pub returns-clause-the_series_goes_on : goal.returns-clause-the_series_goes_on
+returns-clause-the_series_goes_on c =
+    by_take c.args.sheet.now c.args.self c.args.refutation.now (lists c.args.formula.now c.args.line_values.now c.args.question.now)
+    c.moved.result _ (returns-clause-moves_by_the_rules c)
+
+pub returns-clause-fewer_answers_are_left : goal.returns-clause-fewer_answers_are_left
+returns-clause-fewer_answers_are_left c =
+    by_taken c.args.sheet.now c.args.self c.args.refutation.now (lists c.args.formula.now c.args.line_values.now c.args.question.now)
+    c.moved.result _ (omega arith) (returns-clause-moves_by_the_rules c)
+
+pub returns-clause-answers_in_the_procedure : goal.returns-clause-answers_in_the_procedure
+returns-clause-answers_in_the_procedure c =
+    taken_answers c.args.sheet.now c.args.self c.args.refutation.now (lists c.args.formula.now c.args.line_values.now c.args.question.now)
+    c.moved.result _ (returns-clause-moves_by_the_rules c)

@@ -1,12 +1,12 @@
-use Rattle.std.proofs.Common.{sym, ◌∙◌, arith}
+use Rattle.std.proofs.Common.{◌≡◌, true, false, rules, tests, ◌∙◌}
+use Rattle.std.proofs.lemmas.Iterator.{first_from_Range}
 use Rattle.sheet.specs.Sheets.{sheet_of}
-use Rattle.checker.proofs.Tracing.{first_here, first_later}
+use Rattle.checker.proofs.Tracing.{bad_at, first_found}
 use Rattle.checker.proofs.runs.first_bad.Goals as goal
 
-pub returns-then-is_bad : goal.returns-then-is_bad
-returns-then-is_bad c =
-    sym (c.loop-frame.invariant ∙ first_here (sheet_of c.args.sheet.now) c.args.assignment.now c.args.last c.loop-frame.frame (omega arith) c.if-is_bad.ensures)
-
-pub loop-frame-preserved : goal.loop-frame-preserved
-loop-frame-preserved c =
-    c.loop-frame.invariant ∙ first_later (sheet_of c.args.sheet.now) c.args.assignment.now c.args.last c.loop-frame.frame (omega arith) c.if-is_bad.ensures
+pub returns : goal.returns
+returns c =
+    let bad = bad_at (sheet_of c.args.sheet.now) c.args.assignment.now in
+    c.unwrap_or.ensures
+    ∙ first_found (sheet_of c.args.sheet.now) c.args.assignment.now c.args.last c.find.result
+    (first_from_Range _ _ _ _ (λ i. bad i ≡ true) (λ i. bad i ≡ false) c.find.ensures.ran (λ x q k. search (rules, tests)) (λ x q k. search (rules, tests)))
