@@ -50,7 +50,7 @@ fn start_formulas(rt: HostRuntime) -> Result<(), Fail> {
     let mut list = [9; 3];
     assert_eq!(rt; start_size(&HOOP), 1);
     let start = start_formula(&HOOP, &mut list).ok_or("no room")?;
-    assert_eq!(rt; (start.literal.number(), start.count), (22, 1));
+    assert_eq!(rt; (start.literal.number(), start.gates), (22, 1));
     assert_eq!(rt; list, [11, 9, 0]);
     let mut short = [9; 1];
     assert!(rt; start_formula(&HOOP, &mut short).is_none());

@@ -11,7 +11,7 @@ use Rattle.sheet.specs.Render.{well_formed}
 use Rattle.sheet.specs.Sheets.{Sheet, sheet_of, gate_count, Legal}
 use Rattle.sheet.specs.Trip.{Iff}
 use Rattle.sheet.proofs.Legality.{well_formed_legal, legal_well_formed}
-use Rattle.formula.specs.declared.start.Started.{Started}
+use Rattle.formula.specs.declared.root.Root.{Root}
 use Rattle.formula.specs.Formulas.{width, Formula, Gates}
 use Rattle.formula.specs.Framing.{in_frame}
 use Rattle.formula.specs.Conjunction.{Outcome, grown, short}
@@ -28,7 +28,7 @@ use Rattle.question.proofs.Laying.{length_encode}
 use Rattle.checker.specs.Opening.{Opened, unopened, start_asked, start_made, opened}
 
 abbrev pub Found : Type 0
-Found = Option Started × List ℕ
+Found = Option Root × List ℕ
 
 abbrev Posed : Type 0
 Posed = Option ℕ × List ℕ
@@ -50,45 +50,45 @@ start_list_length s f n r =
     )
 
 -- how many gates a start formula has that was written
-count_by : (c front : List ℕ) (o : Outcome) (d : Started) (t : List ℕ) → Legal c → start_in (sheet_of c) (length front) ≡ o
-    → ◌≡◌ {A = Found} (Some d, t) (started front o) → d.count ≡ start_size (sheet_of c)
+count_by : (c front : List ℕ) (o : Outcome) (d : Root) (t : List ℕ) → Legal c → start_in (sheet_of c) (length front) ≡ o
+    → ◌≡◌ {A = Found} (Some d, t) (started front o) → d.gates ≡ start_size (sheet_of c)
 count_by c front (grown x n f) d t legal is e =
     let few = legal_few c legal in
-    let same : Some d ≡ Some (record { literal = literal x; count = n }) = ap (λ (p : Found). p.0) e in
-    let count : d.count ≡ n = cc in
+    let same : Some d ≡ Some (record { literal = literal x; gates = n }) = ap (λ (p : Found). p.0) e in
+    let count : d.gates ≡ n = cc in
     count ∙ start_count (sheet_of c) few.0 few.1 (length front) x n f is
 count_by c front short d t legal is e = absurd (none_some d (sym (ap (λ (p : Found). p.0) e)))
 
-count_over : (c front : List ℕ) (d : Started) (t : List ℕ) → Legal c → ◌≡◌ {A = Found} (Some d, t) (start_over c front) → d.count ≡ size_of_start c
+count_over : (c front : List ℕ) (d : Root) (t : List ℕ) → Legal c → ◌≡◌ {A = Found} (Some d, t) (start_over c front) → d.gates ≡ size_of_start c
 count_over c front d t legal e =
     let formed : well_formed c ≡ true = legal_well_formed c legal in
     count_by c front (start_in (sheet_of c) (length front)) d t legal refl (e ∙ cond-true _ _ _ formed) ∙ sym (size_is c formed)
 
-some_part : (l f : List ℕ) (d : Started) (t : List ℕ) → ◌≡◌ {A = Found} (Some d, t) (write_start l f)
+some_part : (l f : List ℕ) (d : Root) (t : List ℕ) → ◌≡◌ {A = Found} (Some d, t) (write_start l f)
     → ◌≡◌ {A = Found} (Some d, (start_over (counted l) (counted f)).1) (start_over (counted l) (counted f))
 some_part l f d t e = λ i. ((e i).0, (start_over (counted l) (counted f)).1)
 
-count_is : (l f : List ℕ) (d : Started) (t : List ℕ) → Legal (counted l) → ◌≡◌ {A = Found} (Some d, t) (write_start l f) → d.count ≡ size_of_start (counted l)
+count_is : (l f : List ℕ) (d : Root) (t : List ℕ) → Legal (counted l) → ◌≡◌ {A = Found} (Some d, t) (write_start l f) → d.gates ≡ size_of_start (counted l)
 count_is l f d t legal e =
     count_over (counted l) (counted f) d (start_over (counted l) (counted f)).1 legal (some_part l f d t e)
 
 -- ---- where both fit
-module _ (l : List ℕ) (K Q : ℕ) (f q f' : List ℕ) (d : Started) (is : ◌≡◌ {A = Found} (Some d, f') (write_start l f)) (q' : List ℕ) where
+module _ (l : List ℕ) (K Q : ℕ) (f q f' : List ℕ) (d : Root) (is : ◌≡◌ {A = Found} (Some d, f') (write_start l f)) (q' : List ℕ) where
   abbrev list : List ℕ
-  list = start_list (sheet_of (counted l)) (counted f') d.count d.literal.0
+  list = start_list (sheet_of (counted l)) (counted f') d.gates d.literal.0
 
   pub never_none : Legal (counted l) → 2 * size_of_start (counted l) ≤ length (counted f)
       → 10 + 10 * (gate_count (counted l) + size_of_start (counted l)) ≤ length (counted q) → length f' ≡ length f
-      → Starts (sheet_of (counted l)) f' d.count d.literal.0
-      → (Legal (counted l) → Gates (sheet_of (counted l)) (counted f') d.count → Formula (sheet_of (counted l)) d.count d.literal.0
+      → Starts (sheet_of (counted l)) f' d.gates d.literal.0
+      → (Legal (counted l) → Gates (sheet_of (counted l)) (counted f') d.gates → Formula (sheet_of (counted l)) d.gates d.literal.0
       → Iff (is_some no_size ≡ true) (length list ≤ length (counted q)))
       → ⊥
   never_none legal room space same starts takes =
-      let count : d.count ≡ size_of_start (counted l) = count_is l f d f' legal is in
+      let count : d.gates ≡ size_of_start (counted l) = count_is l f d f' legal is in
       let long : length (counted f') ≡ length (counted f) = omega (arith, length-take (2 ^ 28) f', length-take (2 ^ 28) f) in
-      let pairs : SamePairs f' (counted f') d.count = λ k h. get_or-take (2 ^ 28) f' k 0 (omega (arith, length-take (2 ^ 28) f')) in
-      let gates : Gates (sheet_of (counted l)) (counted f') d.count = gates_same (sheet_of (counted l)) f' (counted f') d.count pairs starts.gates in
-      let size = start_list_length (sheet_of (counted l)) (counted f') d.count d.literal.0 in
+      let pairs : SamePairs f' (counted f') d.gates = λ k h. get_or-take (2 ^ 28) f' k 0 (omega (arith, length-take (2 ^ 28) f')) in
+      let gates : Gates (sheet_of (counted l)) (counted f') d.gates = gates_same (sheet_of (counted l)) f' (counted f') d.gates pairs starts.gates in
+      let size = start_list_length (sheet_of (counted l)) (counted f') d.gates d.literal.0 in
       false≢true ((takes legal gates starts.formula).1 (omega arith))
 
 -- ---- where one does not
@@ -113,12 +113,12 @@ module _ (l : List ℕ) (K Q : ℕ) (f q : List ℕ) where
       ap (λ (p : Posed). p.0) (cond-false _ _ _ (and_left (leb (length list) (length (counted q))) (all_below (2 ^ 32) list) (lt-leb (length list) (length (counted q)) lacks)))
   posed_none false list lacks = refl
 
-  asked_none : (d : Started) (f' : List ℕ) (o : Option ℕ) (x : List ℕ) → o ≡ None → start_asked K Q d f f' q (o, x) ≡ unopened StartQuestionTooLong f q
+  asked_none : (d : Root) (f' : List ℕ) (o : Option ℕ) (x : List ℕ) → o ≡ None → start_asked K Q d f f' q (o, x) ≡ unopened StartQuestionTooLong f q
   asked_none d f' None x none = refl
   asked_none d f' (Some n) x none = absurd (none_some n (sym none))
 
   made_none : Legal (counted l) → 2 * size_of_start (counted l) ≤ length (counted f) → length (counted q) < 10 + 10 * (gate_count (counted l) + size_of_start (counted l))
-      → (o : Option Started) (t : List ℕ) → ◌≡◌ {A = Found} (o, t) (write_start l f) → start_made l K Q f q (o, t) ≡ unopened StartQuestionTooLong f q
+      → (o : Option Root) (t : List ℕ) → ◌≡◌ {A = Found} (o, t) (write_start l f) → start_made l K Q f q (o, t) ≡ unopened StartQuestionTooLong f q
   made_none legal room lacks None t e =
       absurd
       (⊎_elim
@@ -126,11 +126,11 @@ module _ (l : List ℕ) (K Q : ℕ) (f q : List ℕ) where
       (λ (little : length (counted f) < 2 * size_of_start (counted l)). omega arith)
       ((refused_when l f t None e).0 refl))
   made_none legal room lacks (Some d) t e =
-      let count : d.count ≡ size_of_start (counted l) = count_is l f d t legal e in
-      let list : List ℕ = start_list (sheet_of (counted l)) (counted t) d.count d.literal.0 in
-      let size = start_list_length (sheet_of (counted l)) (counted t) d.count d.literal.0 in
-      let p : Posed = posed_if (given l t d.count) list q in
-      asked_none d t p.0 p.1 (posed_none (given l t d.count) list (omega arith))
+      let count : d.gates ≡ size_of_start (counted l) = count_is l f d t legal e in
+      let list : List ℕ = start_list (sheet_of (counted l)) (counted t) d.gates d.literal.0 in
+      let size = start_list_length (sheet_of (counted l)) (counted t) d.gates d.literal.0 in
+      let p : Posed = posed_if (given l t d.gates) list q in
+      asked_none d t p.0 p.1 (posed_none (given l t d.gates) list (omega arith))
 
   pub unasked : true ≡ well_formed (counted l) → K ≤ 30 → 0 < Q → Q ≤ 4294967295 → (e : Fault) → e ≡ fault Open StartQuestionTooLong 0
       → (n len : ℕ) → n ≡ size_of_start (counted l) → len ≡ min (length f) (2 ^ 28) → 2 * n ≤ len

@@ -8,7 +8,7 @@ use Rattle.formula.specs.Conjunction.{Outcome, grown, short, disjoin}
 use Rattle.question.specs.Layout.{path_list, inclusion_list, given, posed_if}
 use Rattle.interpolant.specs.Drawing.{interpolation}
 use Rattle.interpolant.specs.Parting.{width_in}
-use Rattle.interpolant.specs.declared.draw.Drawn.{Drawn}
+use Rattle.formula.specs.declared.root.Root.{Root}
 use Rattle.interpolant.specs.declared.draw.Short.{Short}
 use Rattle.checker.specs.declared.Kind.{Kind}
 use Rattle.checker.specs.declared.Kind.TheVariants.{Start, Path, Inclusion}
@@ -38,12 +38,12 @@ path_keeps : (l : List ℕ) (a : Asked) (k : ℕ) (r : Region) (x : Lists) → K
 path_keeps l a k r x =
     asked_keeps (posed_if (leb k 30 && given l x.formula r.gates) (path_list (sheet_in l) (counted x.formula) r.gates r.literal.0 k) x.question).0 Path k r a _
 
-inclusion_keeps : (l : List ℕ) (a : Asked) (d : Drawn) (x : Lists) → Keeps a (inclusion_asked l a d x)
+inclusion_keeps : (l : List ℕ) (a : Asked) (d : Root) (x : Lists) → Keeps a (inclusion_asked l a d x)
 inclusion_keeps l a d x =
     asked_keeps (posed_if (given l x.formula d.gates) (inclusion_list (sheet_in l) (counted x.formula) d.gates d.literal.0 a.region.literal.0) x.question).0
     (Inclusion d.literal) a.bound (with_gates d.gates a.region) a _
 
-drawn_keeps : (o : Result Drawn Short) (l : List ℕ) (a : Asked) (x : Lists) → Keeps a (drawn_if o l a x)
+drawn_keeps : (o : Result Root Short) (l : List ℕ) (a : Asked) (x : Lists) → Keeps a (drawn_if o l a x)
 drawn_keeps (Ok d) l a x = inclusion_keeps l a d x
 drawn_keeps (Err e) l a x = tt
 

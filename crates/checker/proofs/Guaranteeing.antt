@@ -20,7 +20,7 @@ use Rattle.procedure.specs.Happens.{starters}
 use Rattle.procedure.proofs.Starting.{start_region}
 use Rattle.procedure.proofs.Theorem.{guarantee, one_by_one_rises}
 use Rattle.formula.specs.Built.{write_start}
-use Rattle.formula.specs.declared.start.Started.{Started}
+use Rattle.formula.specs.declared.root.Root.{Root}
 use Rattle.question.specs.Layout.{start_list, given, posed_if}
 use Rattle.question.specs.Meaning.{frame_at}
 use Rattle.question.specs.Questions.{IsQuestion}
@@ -238,14 +238,14 @@ standing_question l K Q a x n s = is_question l K Q a x n (holds s)
 abbrev Keeps : List ℕ → List ℕ → Opened → Type 0
 Keeps f q p = elim p.0 [ Ok a ↦ Unit {0} | Err e ↦ ((p.1 ≡ f) × (p.2 ≡ q)) ]
 
-asked_keeps : (K Q : ℕ) (d : Started) (f f' q : List ℕ) (o : Option ℕ) (new : List ℕ) → Keeps f q (start_asked K Q d f f' q (o, new))
+asked_keeps : (K Q : ℕ) (d : Root) (f f' q : List ℕ) (o : Option ℕ) (new : List ℕ) → Keeps f q (start_asked K Q d f f' q (o, new))
 asked_keeps K Q d f f' q None new = (refl, refl)
 asked_keeps K Q d f f' q (Some m) new = tt
 
-made_keeps : (l : List ℕ) (K Q : ℕ) (f q : List ℕ) (o : Option Started) (f' : List ℕ) → Keeps f q (start_made l K Q f q (o, f'))
+made_keeps : (l : List ℕ) (K Q : ℕ) (f q : List ℕ) (o : Option Root) (f' : List ℕ) → Keeps f q (start_made l K Q f q (o, f'))
 made_keeps l K Q f q None f' = (refl, refl)
 made_keeps l K Q f q (Some d) f' =
-    let p = posed_if (given l f' d.count) (start_list (sheet_in l) (counted f') d.count d.literal.0) q in
+    let p = posed_if (given l f' d.gates) (start_list (sheet_in l) (counted f') d.gates d.literal.0) q in
     asked_keeps K Q d f f' q p.0 p.1
 
 opened_keeps : (l : List ℕ) (K Q : ℕ) (f q : List ℕ) → Keeps f q (opened l K Q f q)

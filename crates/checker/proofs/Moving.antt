@@ -26,7 +26,7 @@ use Rattle.answer.specs.Derivations.{Derives}
 use Rattle.answer.specs.Steps.{step_count}
 use Rattle.interpolant.specs.Drawing.{Found, interpolation}
 use Rattle.interpolant.specs.Parting.{width_in}
-use Rattle.interpolant.specs.declared.draw.Drawn.{Drawn as Drawing}
+use Rattle.formula.specs.declared.root.Root.{Root as Drawing}
 use Rattle.interpolant.specs.declared.draw.Short.{Short}
 use Rattle.interpolant.proofs.Meanings.{draws_formula, lies_between}
 use Rattle.interpolant.proofs.Pathways.{legal_wide}

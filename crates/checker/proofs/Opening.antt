@@ -10,7 +10,7 @@ use Rattle.procedure.specs.Happens.{starters}
 use Rattle.formula.specs.Built.{started, write_start}
 use Rattle.formula.specs.Conjunction.{Outcome, grown, short}
 use Rattle.formula.specs.Starting.{start_in, Starts as StartsWith}
-use Rattle.formula.specs.declared.start.Started.{Started}
+use Rattle.formula.specs.declared.root.Root.{Root}
 use Rattle.formula.proofs.Starts.{starts_from}
 use Rattle.formula.proofs.Valued.{SamePairs, gates_same}
 use Rattle.question.specs.Clauses.{start_clauses}
@@ -26,8 +26,8 @@ use Rattle.checker.specs.Points.{sheet_in}
 use Rattle.checker.proofs.Standing.{Comes, Stands}
 
 -- ---- the start formula that was written is true exactly in the start states
-abbrev Made : Sheet → List ℕ → Option Started × List ℕ → Type 0
-Made s rest p = IfSome p.0 (λ d. StartsWith s (p.1 ++ rest) d.count d.literal.0)
+abbrev Made : Sheet → List ℕ → Option Root × List ℕ → Type 0
+Made s rest p = IfSome p.0 (λ d. StartsWith s (p.1 ++ rest) d.gates d.literal.0)
 
 made_by : (s : Sheet) (front rest : List ℕ) (places : ℕ) (o : Outcome) → start_in s places ≡ o → Made s rest (started front o)
 made_by s front rest places short is = tt
@@ -37,7 +37,7 @@ made_by s front rest places (grown x n t) is =
     starts_same s t (t ++ rest) n x pairs starts
 
 start_made_lem : (l f : List ℕ) → well_formed (counted l) ≡ true
-    → IfSome (write_start l f).0 (λ d. StartsWith (sheet_in l) (write_start l f).1 d.count d.literal.0)
+    → IfSome (write_start l f).0 (λ d. StartsWith (sheet_in l) (write_start l f).1 d.gates d.literal.0)
 start_made_lem l f formed =
     cond_both (well_formed (counted l)) (started (counted f) (start_in (sheet_in l) (length (counted f)))) (None, counted f) (Made (sheet_in l) (uncounted f))
     (λ _. made_by (sheet_in l) (counted f) (uncounted f) (length (counted f)) (start_in (sheet_in l) (length (counted f))) refl) (λ _. tt)
@@ -50,20 +50,20 @@ module _ (l : List ℕ) (K Q : ℕ) (formed : well_formed (counted l) ≡ true) 
   abbrev s : Sheet
   s = sheet_in l
 
-  module _ (d : Started) (f' : List ℕ) (starts : StartsWith s f' d.count d.literal.0) where
+  module _ (d : Root) (f' : List ℕ) (starts : StartsWith s f' d.gates d.literal.0) where
     abbrev list : List ℕ
-    list = start_list s (counted f') d.count d.literal.0
+    list = start_list s (counted f') d.gates d.literal.0
 
-    by_question : (o : Option ℕ) (new : List ℕ) → ◌≡◌ {A = Option ℕ × List ℕ} (o, new) (posed_if (given l f' d.count) list q)
+    by_question : (o : Option ℕ) (new : List ℕ) → ◌≡◌ {A = Option ℕ × List ℕ} (o, new) (posed_if (given l f' d.gates) list q)
         → OfOpened l K Q vs (start_asked K Q d f f' q (o, new))
     by_question None new e = tt
     by_question (Some m) new e =
-        let size : (m ≡ length list) × (m ≤ 2 ^ 28) = subst (λ (o : Option ℕ). IfSome o (λ m. (m ≡ length list) × (m ≤ 2 ^ 28))) (sym (ap (λ p. p.0) e)) (posed_sized (given l f' d.count) list q) in
-        let is : given l f' d.count ≡ true = subst (λ (o : Option ℕ). IfSome o (λ m. given l f' d.count ≡ true)) (sym (ap (λ p. p.0) e)) (posed_given (given l f' d.count) list q) in
-        let told = given_tells l f' d.count is in
-        let front = gates_same s f' (counted f') d.count (front_pairs f' d.count told.1) starts.gates in
-        let lays = start_lays l f' d.count q (Some m) new d.literal.0 e in
-        let question = start_is_question l f' d.count q (Some m) new d.literal.0 e front starts.formula in
+        let size : (m ≡ length list) × (m ≤ 2 ^ 28) = subst (λ (o : Option ℕ). IfSome o (λ m. (m ≡ length list) × (m ≤ 2 ^ 28))) (sym (ap (λ p. p.0) e)) (posed_sized (given l f' d.gates) list q) in
+        let is : given l f' d.gates ≡ true = subst (λ (o : Option ℕ). IfSome o (λ m. given l f' d.gates ≡ true)) (sym (ap (λ p. p.0) e)) (posed_given (given l f' d.gates) list q) in
+        let told = given_tells l f' d.gates is in
+        let front = gates_same s f' (counted f') d.gates (front_pairs f' d.gates told.1) starts.gates in
+        let lays = start_lays l f' d.gates q (Some m) new d.literal.0 e in
+        let question = start_is_question l f' d.gates q (Some m) new d.literal.0 e front starts.formula in
         record {
           sound = record {
             legal = told.0;
@@ -74,7 +74,7 @@ module _ (l : List ℕ) (K Q : ℕ) (formed : well_formed (counted l) ≡ true) 
             turns = refl;
             left = some;
             bound = omega arith;
-            some_size = some_numbers m 0 0 (start_clauses s (counted f') d.count d.literal.0) size.0;
+            some_size = some_numbers m 0 0 (start_clauses s (counted f') d.gates d.literal.0) size.0;
             few_size = size.1;
             gates = starts.gates;
             room = told.1;
@@ -84,15 +84,15 @@ module _ (l : List ℕ) (K Q : ℕ) (formed : well_formed (counted l) ≡ true) 
             fresh = refl;
           };
           region = starters s;
-          is = starts_set s f' d.count d.literal.0 starts;
+          is = starts_set s f' d.gates d.literal.0 starts;
           asks = (opens, poses m new _ _ _ size.1 question lays);
         }
 
-  by_formula : (o : Option Started) (f' : List ℕ) → IfSome o (λ d. StartsWith s f' d.count d.literal.0)
+  by_formula : (o : Option Root) (f' : List ℕ) → IfSome o (λ d. StartsWith s f' d.gates d.literal.0)
       → OfOpened l K Q vs (start_made l K Q f q (o, f'))
   by_formula None f' h = tt
   by_formula (Some d) f' h =
-      let p = posed_if (given l f' d.count) (start_list s (counted f') d.count d.literal.0) q in
+      let p = posed_if (given l f' d.gates) (start_list s (counted f') d.gates d.literal.0) q in
       by_question d f' h p.0 p.1 refl
 
   made_stands : OfOpened l K Q vs (start_made l K Q f q (write_start l f))

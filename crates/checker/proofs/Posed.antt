@@ -13,7 +13,7 @@ use Rattle.question.specs.Layout.{encode, path_list, inclusion_list, given, pose
 use Rattle.question.specs.Questions.{IsQuestion}
 use Rattle.question.proofs.Posing.{given_tells}
 use Rattle.question.proofs.Promises.{path_lays, path_is_question, inclusion_lays, inclusion_is_question}
-use Rattle.interpolant.specs.declared.draw.Drawn.{Drawn as Drawing}
+use Rattle.formula.specs.declared.root.Root.{Root as Drawing}
 use Rattle.checker.specs.declared.Kind.{Kind}
 use Rattle.checker.specs.declared.Kind.TheVariants.{Path, Inclusion}
 use Rattle.checker.specs.declared.Region.{Region}

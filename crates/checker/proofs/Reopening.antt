@@ -12,7 +12,7 @@ use Rattle.formula.specs.Built.{started, write_start}
 use Rattle.formula.specs.Conjunction.{Outcome, grown, short, disjoin}
 use Rattle.formula.specs.Formulas.{width}
 use Rattle.formula.specs.Starting.{start_literal, joined, onward, join_starts, start_in}
-use Rattle.formula.specs.declared.start.Started.{Started}
+use Rattle.formula.specs.declared.root.Root.{Root}
 use Rattle.formula.proofs.Starts.{starts_from}
 use Rattle.question.specs.Layout.{start_list, path_list, inclusion_list, given, posed_if}
 use Rattle.question.proofs.Posing.{given_tells}
@@ -21,7 +21,6 @@ use Rattle.answer.specs.Assignments.{judged}
 use Rattle.answer.specs.Runs.{checked}
 use Rattle.interpolant.specs.Drawing.{Adds, Found, interpolation}
 use Rattle.interpolant.specs.Parting.{width_in}
-use Rattle.interpolant.specs.declared.draw.Drawn.{Drawn}
 use Rattle.interpolant.specs.declared.draw.Short.{Short}
 use Rattle.interpolant.proofs.Adding.{Added, adds_refl, added_trans, and_added, or_added, adds_gates}
 use Rattle.checker.specs.declared.Kind.{Kind}
@@ -118,8 +117,8 @@ zero_places places i =
     (λ (high : places ≤ i). get_or_past (replicate places 0) i 0 (omega (arith, length-replicate {A = ℕ} places 0)))
     (cases_lt i places)
 
-abbrev Restores : List ℕ → Option Started × List ℕ → Type 0
-Restores f p = IfSome p.0 (λ d. restored d.count (p.1 ++ uncounted f) ≡ p.1 ++ uncounted f)
+abbrev Restores : List ℕ → Option Root × List ℕ → Type 0
+Restores f p = IfSome p.0 (λ d. restored d.gates (p.1 ++ uncounted f) ≡ p.1 ++ uncounted f)
 
 made_restores : (s : Sheet) (f : List ℕ) (o : Outcome) → start_in s (length (counted f)) ≡ o → Restores f (started (counted f) o)
 made_restores s f short is = tt
@@ -130,7 +129,7 @@ made_restores s f (grown x n t) is =
     back_zeros (2 ^ 28) n t f (added.size ∙ length-replicate {A = ℕ} (length (counted f)) 0) (gates_whole s t n starts.gates)
     (λ i h. added.behind i h ∙ zero_places (length (counted f)) i)
 
-start_restores : (l f : List ℕ) → IfSome (write_start l f).0 (λ d. restored d.count (write_start l f).1 ≡ (write_start l f).1)
+start_restores : (l f : List ℕ) → IfSome (write_start l f).0 (λ d. restored d.gates (write_start l f).1 ≡ (write_start l f).1)
 start_restores l f =
     cond_both (well_formed (counted l)) (started (counted f) (start_in (sheet_in l) (length (counted f)))) (None, counted f) (Restores f)
     (λ _. made_restores (sheet_in l) f (start_in (sheet_in l) (length (counted f))) refl) (λ _. tt)
@@ -166,7 +165,7 @@ module _ (l : List ℕ) (o : Region) (f₀ : List ℕ) where
           let room = (given_tells l x.formula r.gates (and_parts (leb k 30) (given l x.formula r.gates) told).1).1 in
           (is, back_same (2 ^ 28) o.gates n r.gates f x.formula adds older room ∙ h)
 
-  inclusion_grown : (a : Asked) (d : Drawn) (x : Lists) (f : List ℕ) (n : ℕ) → a.opening ≡ o → restored o.gates f ≡ f₀
+  inclusion_grown : (a : Asked) (d : Root) (x : Lists) (f : List ℕ) (n : ℕ) → a.opening ≡ o → restored o.gates f ≡ f₀
       → Adds f n x.formula d.gates → o.gates ≤ n → Backs o f₀ (inclusion_asked l a d x)
   inclusion_grown a d x f n is h adds older =
       let b : Bool = given l x.formula d.gates in
@@ -188,7 +187,7 @@ module _ (l : List ℕ) (K Q : ℕ) (a : Asked) (x : Lists) (n : ℕ) (st : Stan
   abbrev b : Asked
   b = counting a
 
-  drawn_backs : (t : List ℕ) (o : Result Drawn Short) (f' vs' : List ℕ)
+  drawn_backs : (t : List ℕ) (o : Result Root Short) (f' vs' : List ℕ)
       → ◌≡◌ {A = Found} (o, f', vs') (interpolation (counted l) (counted (used_part a.size x.question)) (counted t) x.formula a.region.gates x.values)
       → Backs a.opening f₀ (drawn_if o l b (lists f' vs' x.question))
   drawn_backs t (Err e) f' vs' is = tt
@@ -234,14 +233,14 @@ StageBack l K Q (at_ended e xs) x = Unit {0}
 abbrev OpenedBack : Opened → Type 0
 OpenedBack p = elim p.0 [ Ok a ↦ ((a.opening ≡ a.region) × (restored a.opening.gates p.1 ≡ p.1)) | Err e ↦ Unit {0} ]
 
-asked_back : (K Q : ℕ) (d : Started) (f f' q : List ℕ) → restored d.count f' ≡ f' → (o : Option ℕ) (new : List ℕ) → OpenedBack (start_asked K Q d f f' q (o, new))
+asked_back : (K Q : ℕ) (d : Root) (f f' q : List ℕ) → restored d.gates f' ≡ f' → (o : Option ℕ) (new : List ℕ) → OpenedBack (start_asked K Q d f f' q (o, new))
 asked_back K Q d f f' q h None new = tt
 asked_back K Q d f f' q h (Some m) new = (refl, h)
 
-made_back : (l : List ℕ) (K Q : ℕ) (f q : List ℕ) (o : Option Started) (f' : List ℕ) → IfSome o (λ d. restored d.count f' ≡ f') → OpenedBack (start_made l K Q f q (o, f'))
+made_back : (l : List ℕ) (K Q : ℕ) (f q : List ℕ) (o : Option Root) (f' : List ℕ) → IfSome o (λ d. restored d.gates f' ≡ f') → OpenedBack (start_made l K Q f q (o, f'))
 made_back l K Q f q None f' h = tt
 made_back l K Q f q (Some d) f' h =
-    let p = posed_if (given l f' d.count) (start_list (sheet_in l) (counted f') d.count d.literal.0) q in
+    let p = posed_if (given l f' d.gates) (start_list (sheet_in l) (counted f') d.gates d.literal.0) q in
     asked_back K Q d f f' q h p.0 p.1
 
 opened_back : (l : List ℕ) (K Q : ℕ) (f q : List ℕ) → OpenedBack (opened l K Q f q)

@@ -9,7 +9,7 @@ use Rattle.question.specs.Layout.{path_list, inclusion_list, given, posed_if}
 use Rattle.question.specs.Questions.{variable_count}
 use Rattle.interpolant.specs.Drawing.{interpolation}
 use Rattle.interpolant.specs.Parting.{width_in}
-use Rattle.interpolant.specs.declared.draw.Drawn.{Drawn}
+use Rattle.formula.specs.declared.root.Root.{Root}
 use Rattle.interpolant.specs.declared.draw.Short.{Short}
 use Rattle.interpolant.specs.declared.draw.Short.TheVariants.{LineValues as NoValues, Formula as NoGate}
 use Rattle.checker.specs.declared.Kind.{Kind}
@@ -70,7 +70,7 @@ path_asked l a k r x =
 abbrev pub with_gates : ℕ → Region → Region
 with_gates n r = record { literal = r.literal; gates = n; grown = r.grown }
 
-abbrev pub inclusion_asked : List ℕ → Asked → Drawn → Lists → Turned
+abbrev pub inclusion_asked : List ℕ → Asked → Root → Lists → Turned
 inclusion_asked l a d x =
     let p = posed_if (given l x.formula d.gates) (inclusion_list (sheet_of (counted l)) (counted x.formula) d.gates d.literal.0 a.region.literal.0) x.question in
     asked_if p.0 (Inclusion d.literal) a.bound (with_gates d.gates a.region) a (lists x.formula x.values p.1)
@@ -80,7 +80,7 @@ abbrev pub lack_of : Short → Lack
 lack_of NoValues = LineValues
 lack_of NoGate = Formula
 
-abbrev pub drawn_if : Result Drawn Short → List ℕ → Asked → Lists → Turned
+abbrev pub drawn_if : Result Root Short → List ℕ → Asked → Lists → Turned
 drawn_if (Ok d) l a x = inclusion_asked l a d x
 drawn_if (Err e) l a x = cut_short (lack_of e) a x
 

@@ -56,11 +56,11 @@ fn begin(
     ensures { ◌≡◌ {A = Opened} (result, formula.new, question.new) (start_made sheet.now limits.bound limits.turns formula.old question.old (write_start sheet.now formula.old)) }
 {
     let start = start_formula(sheet, formula).ok_or(unopened(Cause::StartFormulaTooLong))?;
-    let posed = start_question(sheet, formula, start.count, start.literal, question);
+    let posed = start_question(sheet, formula, start.gates, start.literal, question);
     let size = posed.ok_or(unopened(Cause::StartQuestionTooLong))?;
     let opening = Region {
         literal: start.literal,
-        gates: start.count,
+        gates: start.gates,
         grown: false,
     };
     Ok(Asked {

@@ -8,7 +8,8 @@ use crate::lent::{Lists, used_part, width};
 use crate::policy::next_bound;
 use crate::{Answer, Asked, End, Ended, Kind, Lack, Moved, Region};
 use formula::builder::Builder;
-use interpolant::draw::{Drawn, Short, interpolate};
+use formula::root::Root;
+use interpolant::draw::{Short, interpolate};
 use question::build::{inclusion_question, path_question};
 use question::read::variable_count;
 use sheet::literal::Literal;
@@ -59,7 +60,7 @@ impl Asked {
     // Asks whether a state in what was drawn lies outside R.
     fn ask_inclusion(
         &mut self,
-        drawn: Drawn,
+        drawn: Root,
         sheet: &[u32],
         lists: &mut Lists<'_>,
     ) -> Result<(), End>

@@ -12,7 +12,7 @@ use Rattle.sheet.specs.Sheets.{Sheet, sheet_of, latch_count, Legal}
 use Rattle.sheet.specs.Trip.{Iff}
 use Rattle.sheet.proofs.Legality.{well_formed_legal, legal_well_formed}
 use Rattle.machine.specs.Bits.{bit}
-use Rattle.formula.specs.declared.start.Started.{Started}
+use Rattle.formula.specs.declared.root.Root.{Root}
 use Rattle.formula.specs.Conjunction.{Outcome, grown, short}
 use Rattle.formula.specs.Starting.{join_starts, start_in, start_size, Starts, TrueAtStarts}
 use Rattle.formula.specs.Built.{started, start_over, write_start, size_of_start}
@@ -22,9 +22,9 @@ use Rattle.formula.proofs.Sizes.{start_short, start_count}
 use Rattle.formula.proofs.Turns.{legal_few}
 
 abbrev Found : Type 0
-Found = Option Started × List ℕ
+Found = Option Root × List ℕ
 
-none_some : (d : Started) → None ≡ Some d → ⊥
+none_some : (d : Root) → None ≡ Some d → ⊥
 none_some d h = let z : ◌≡◌ {A = ℕ} 0 1 = cc in omega arith
 
 -- ---- over plain lists: c lays out the sheet, and the formula is to go into front
@@ -45,8 +45,8 @@ module _ (c : List ℕ) where
   pub room_told : (r : ℕ) → r ≡ start_size (sheet_of c) → well_formed c ≡ true → (places : ℕ) → Iff (start_in (sheet_of c) places ≡ short) (places < 2 * r)
   room_told r e h = subst (λ (k : ℕ). (places : ℕ) → Iff (start_in (sheet_of c) places ≡ short) (places < 2 * k)) (sym e) (room h)
 
-  joined_over : (front : List ℕ) → well_formed c ≡ true → 2 * start_size (sheet_of c) ≤ length front → (r : Option Started) (t : List ℕ)
-      → MatchOption r (start_in (sheet_of c) (length front) ≡ short) (λ d. start_in (sheet_of c) (length front) ≡ grown d.literal.0 d.count t)
+  joined_over : (front : List ℕ) → well_formed c ≡ true → 2 * start_size (sheet_of c) ≤ length front → (r : Option Root) (t : List ℕ)
+      → MatchOption r (start_in (sheet_of c) (length front) ≡ short) (λ d. start_in (sheet_of c) (length front) ≡ grown d.literal.0 d.gates t)
       → ◌≡◌ {A = Found} (r, t) (start_over c front)
   joined_over front h enough None t told = absurd (omega (arith, enough, (room h (length front)).0 told))
   joined_over front h enough (Some d) t told = sym (legal front h ∙ ap (started front) told)
@@ -55,7 +55,7 @@ module _ (c : List ℕ) where
   none_short front (grown x n f) e = absurd (none_some _ (sym e))
   none_short front short e = refl
 
-  refused_over : (front : List ℕ) (r : Option Started) → r ≡ (start_over c front).0 → Iff (r ≡ None) ((Legal c → ⊥) ⊎ (length front < 2 * size_of_start c))
+  refused_over : (front : List ℕ) (r : Option Root) → r ≡ (start_over c front).0 → Iff (r ≡ None) ((Legal c → ⊥) ⊎ (length front < 2 * size_of_start c))
   refused_over front r is =
       ⊎_elim
       (λ (h : well_formed c ≡ true).
@@ -91,13 +91,13 @@ short_leaves l old c len is formed cut few =
     let none : start_in (sheet_of c) (length (counted old)) ≡ short = (room c (sym formed) (length (counted old))).1 (omega (arith, few, long)) in
     nothing_written l old (ap (λ (x : List ℕ). start_over x (counted old)) (sym is) ∙ legal c (counted old) (sym formed) ∙ ap (started (counted old)) none)
 
-pub refused_when : (l old t : List ℕ) (r : Option Started) → ◌≡◌ {A = Found} (r, t) (write_start l old)
+pub refused_when : (l old t : List ℕ) (r : Option Root) → ◌≡◌ {A = Found} (r, t) (write_start l old)
     → Iff (r ≡ None) ((Legal (counted l) → ⊥) ⊎ (length (counted old) < 2 * size_of_start (counted l)))
 refused_when l old t r e = refused_over (counted l) (counted old) r (ap (λ (q : Found). q.0) e)
 
 -- what is so for bits latch by latch is so for states
-states_of : (s : Sheet) (f : List ℕ) (r : Option Started) → IfSome r (λ d. Starts s f d.count d.literal.0) →
-    IfSome r (λ d. TrueAtStarts s f d.count d.literal.0)
+states_of : (s : Sheet) (f : List ℕ) (r : Option Root) → IfSome r (λ d. Starts s f d.gates d.literal.0) →
+    IfSome r (λ d. TrueAtStarts s f d.gates d.literal.0)
 states_of s f None starts = tt
 states_of s f (Some d) starts = λ c. starts.value (bit c)
 
@@ -124,26 +124,26 @@ module _ (c : List ℕ) (formed : true ≡ well_formed c) (len : ℕ) (enough : 
         value = λ a. Decides-at _ _ (value_same s t (t ++ rest) n pairs a x) (starts.value a);
       }
 
-  starts_if : (c' : List ℕ) → c ≡ c' → (r : Option Started)
-      → MatchOption r (join_starts s s.latches 0 1 0 zeros ≡ short) (λ d. join_starts s s.latches 0 1 0 zeros ≡ grown d.literal.0 d.count t)
-      → IfSome r (λ d. Starts (sheet_of c') (t ++ rest) d.count d.literal.0)
+  starts_if : (c' : List ℕ) → c ≡ c' → (r : Option Root)
+      → MatchOption r (join_starts s s.latches 0 1 0 zeros ≡ short) (λ d. join_starts s s.latches 0 1 0 zeros ≡ grown d.literal.0 d.gates t)
+      → IfSome r (λ d. Starts (sheet_of c') (t ++ rest) d.gates d.literal.0)
   starts_if c' is None told = tt
   starts_if c' is (Some d) told =
-      subst (λ (x : List ℕ). Starts (sheet_of x) (t ++ rest) d.count d.literal.0) is (starts_before d.literal.0 d.count told)
+      subst (λ (x : List ℕ). Starts (sheet_of x) (t ++ rest) d.gates d.literal.0) is (starts_before d.literal.0 d.gates told)
 
-  sized_if : (c' : List ℕ) → c ≡ c' → (r : Option Started)
-      → MatchOption r (join_starts s s.latches 0 1 0 zeros ≡ short) (λ d. join_starts s s.latches 0 1 0 zeros ≡ grown d.literal.0 d.count t)
-      → IfSome r (λ d. d.count ≡ size_of_start c')
+  sized_if : (c' : List ℕ) → c ≡ c' → (r : Option Root)
+      → MatchOption r (join_starts s s.latches 0 1 0 zeros ≡ short) (λ d. join_starts s s.latches 0 1 0 zeros ≡ grown d.literal.0 d.gates t)
+      → IfSome r (λ d. d.gates ≡ size_of_start c')
   sized_if c' is None told = tt
   sized_if c' is (Some d) told =
-      count_before d.literal.0 d.count told ∙ sym (cond-true (well_formed c) (start_size (sheet_of c)) 0 (sym formed)) ∙ ap size_of_start is
+      count_before d.literal.0 d.gates told ∙ sym (cond-true (well_formed c) (start_size (sheet_of c)) 0 (sym formed)) ∙ ap size_of_start is
 
 -- the formula, joined in zeros where the list's front was
 module _ (l old c : List ℕ) (len : ℕ) (is : c ≡ counted l) (formed : true ≡ well_formed c) (cut : len ≡ min (length old) (2 ^ 28)) (enough : 2 * start_size (sheet_of c) ≤ len)
-    (zeros : List ℕ) (filled : zeros ≡ replicate (length (take (len - 0) old)) 0) (r : Option Started) (t : List ℕ)
-    (told : MatchOption r (join_starts (sheet_of c) (latch_count c) 0 1 0 zeros ≡ short) (λ d. join_starts (sheet_of c) (latch_count c) 0 1 0 zeros ≡ grown d.literal.0 d.count t)) where
+    (zeros : List ℕ) (filled : zeros ≡ replicate (length (take (len - 0) old)) 0) (r : Option Root) (t : List ℕ)
+    (told : MatchOption r (join_starts (sheet_of c) (latch_count c) 0 1 0 zeros ≡ short) (λ d. join_starts (sheet_of c) (latch_count c) 0 1 0 zeros ≡ grown d.literal.0 d.gates t)) where
   abbrev Told : List ℕ → Type 0
-  Told f = MatchOption r (join_starts (sheet_of c) (latch_count c) 0 1 0 f ≡ short) (λ d. join_starts (sheet_of c) (latch_count c) 0 1 0 f ≡ grown d.literal.0 d.count t)
+  Told f = MatchOption r (join_starts (sheet_of c) (latch_count c) 0 1 0 f ≡ short) (λ d. join_starts (sheet_of c) (latch_count c) 0 1 0 f ≡ grown d.literal.0 d.gates t)
 
   long : length (take (len - 0) old) ≡ len
   long = omega (arith, cut, length-take (len - 0) old)
@@ -162,9 +162,9 @@ module _ (l old c : List ℕ) (len : ℕ) (is : c ≡ counted l) (formed : true 
   -- what the call promises of it
   pub start_done : length t ≡ length zeros
       → (◌≡◌ {A = Found} (r, t ++ rest) (write_start l old))
-      × IfSome r (λ d. Starts (sheet_of (counted l)) (t ++ rest) d.count d.literal.0)
-      × IfSome r (λ d. TrueAtStarts (sheet_of (counted l)) (t ++ rest) d.count d.literal.0)
-      × IfSome r (λ d. d.count ≡ size_of_start (counted l))
+      × IfSome r (λ d. Starts (sheet_of (counted l)) (t ++ rest) d.gates d.literal.0)
+      × IfSome r (λ d. TrueAtStarts (sheet_of (counted l)) (t ++ rest) d.gates d.literal.0)
+      × IfSome r (λ d. d.gates ≡ size_of_start (counted l))
       × Iff (r ≡ None) ((Legal (counted l) → ⊥) ⊎ (length (counted old) < 2 * size_of_start (counted l)))
   start_done same =
       let starts = starts_if c formed len enough (take (len - 0) old) long zeros filled t same rest (counted l) is r told in (

@@ -5,7 +5,7 @@ use Rattle.sheet.specs.declared.literal.Literal.{Literal}
 use Rattle.sheet.specs.Render.{well_formed}
 use Rattle.sheet.specs.Sheets.{Sheet, sheet_of}
 use Rattle.formula.specs.declared.builder.Builder.{Builder}
-use Rattle.formula.specs.declared.start.Started.{Started}
+use Rattle.formula.specs.declared.root.Root.{Root}
 use Rattle.formula.specs.Formulas.{width, Formula, Gates}
 use Rattle.formula.specs.Conjunction.{Outcome, grown, short, Joins}
 use Rattle.formula.specs.Starting.{start_in, start_size}
@@ -29,16 +29,16 @@ JoinsBy op g f a b g' f' r =
     → IfSome r (λ x. Joins op s f g.count a.0 b.0 f' g'.count x.0)
 
 -- the start formula in place of all that a list held; where there is no room, the list as it was
-abbrev pub started : List ℕ → Outcome → Option Started × List ℕ
-started old (grown x n f) = (Some (record { literal = literal x; count = n }), f)
+abbrev pub started : List ℕ → Outcome → Option Root × List ℕ
+started old (grown x n f) = (Some (record { literal = literal x; gates = n }), f)
 started old short = (None, old)
 
 -- the start formula of the sheet that l lays out; of a list that lays out none, nothing
-abbrev pub start_over : List ℕ → List ℕ → Option Started × List ℕ
+abbrev pub start_over : List ℕ → List ℕ → Option Root × List ℕ
 start_over l old = cond (well_formed l) (started old (start_in (sheet_of l) (length old))) (None, old)
 
 -- writing the start formula into a lent list
-abbrev pub write_start : List ℕ → List ℕ → Option Started × List ℕ
+abbrev pub write_start : List ℕ → List ℕ → Option Root × List ℕ
 write_start l old = on_counted (start_over (counted l)) old
 
 -- how many gates it has; of a list that lays out no sheet, 0

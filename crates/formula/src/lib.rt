@@ -4,4 +4,5 @@
 pub mod builder;
 pub mod frame;
 pub mod question_literal;
+pub mod root;
 pub mod start;

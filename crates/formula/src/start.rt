@@ -9,15 +9,9 @@ ghost use Rattle.formula.specs.Starting.{start_mark, join_starts, start_in, star
 ghost use Rattle.formula.specs.Built.{simplified, write_start, size_of_start};
 
 use crate::builder::Builder;
+use crate::root::Root;
 use sheet::legal::LegalSheet;
 use sheet::literal::Literal;
-
-// A literal, and how many gates the list has.
-#[derive(Clone, Copy)]
-pub struct Started {
-    pub literal: Literal,
-    pub count: u32,
-}
 
 // The literal that is true where a latch has its start bit, if it starts with one.
 fn start_literal(sheet: LegalSheet<'_>, latch: u32) -> Option<Literal>
@@ -47,8 +41,8 @@ fn count_gates(sheet: LegalSheet<'_>) -> u32
     count_start_bits(sheet).saturating_sub(1) as u32
 }
 
-fn join_starts(sheet: LegalSheet<'_>, list: &mut [u32]) -> Option<Started>
-    ensures { MatchOption result (join_starts (sheet_of sheet.entry.numbers.now) (latch_count sheet.entry.numbers.now) 0 1 0 list.old ≡ short) (λ d. join_starts (sheet_of sheet.entry.numbers.now) (latch_count sheet.entry.numbers.now) 0 1 0 list.old ≡ grown d.literal.0 d.count list.new) }
+fn join_starts(sheet: LegalSheet<'_>, list: &mut [u32]) -> Option<Root>
+    ensures { MatchOption result (join_starts (sheet_of sheet.entry.numbers.now) (latch_count sheet.entry.numbers.now) 0 1 0 list.old ≡ short) (λ d. join_starts (sheet_of sheet.entry.numbers.now) (latch_count sheet.entry.numbers.now) 0 1 0 list.old ≡ grown d.literal.0 d.gates list.new) }
 {
     let mut builder = Builder {
         width: sheet.width(),
@@ -60,9 +54,9 @@ fn join_starts(sheet: LegalSheet<'_>, list: &mut [u32]) -> Option<Started>
             literal = builder.and(list, literal, start)?;
         }
     }
-    Some(Started {
+    Some(Root {
         literal,
-        count: builder.count,
+        gates: builder.count,
     })
 }
 
@@ -76,11 +70,11 @@ pub fn start_size(sheet: &[u32]) -> u32
 
 // Writes the gates of the start formula into `list`, with zeros behind them. None, and nothing written, for a list that is
 // not legal or if there is no room.
-pub fn start_formula(sheet: &[u32], list: &mut [u32]) -> Option<Started>
+pub fn start_formula(sheet: &[u32], list: &mut [u32]) -> Option<Root>
     ensures writes_the_start_formula { (result, list.new) ≡ write_start sheet.now list.old }
-    ensures is_true_in_start_states_only { IfSome result (λ d. Starts (sheet_of (counted sheet.now)) list.new d.count d.literal.0) }
-    ensures is_true_in_the_machines_start_states { IfSome result (λ d. TrueAtStarts (sheet_of (counted sheet.now)) list.new d.count d.literal.0) }
-    ensures has_the_told_size { IfSome result (λ d. d.count ≡ size_of_start (counted sheet.now)) }
+    ensures is_true_in_start_states_only { IfSome result (λ d. Starts (sheet_of (counted sheet.now)) list.new d.gates d.literal.0) }
+    ensures is_true_in_the_machines_start_states { IfSome result (λ d. TrueAtStarts (sheet_of (counted sheet.now)) list.new d.gates d.literal.0) }
+    ensures has_the_told_size { IfSome result (λ d. d.gates ≡ size_of_start (counted sheet.now)) }
     ensures refuses_illegal_or_short { Iff (result ≡ None) ((Legal (counted sheet.now) → ⊥) ⊎ (length (counted list.old) < 2 * size_of_start (counted sheet.now))) }
 {
     let sheet = LegalSheet::new(sheet)?;

@@ -12,7 +12,7 @@ use Rattle.interpolant.specs.Drawing.{or_shared, draw_step, draw_line, Drawing, 
 use Rattle.interpolant.specs.Interpolation.{Cut, line_count}
 use Rattle.interpolant.specs.Parting.{width_in, cut_of}
 use Rattle.interpolant.specs.declared.draw.Short.{Short}
-use Rattle.interpolant.specs.declared.draw.Drawn.{Drawn}
+use Rattle.formula.specs.declared.root.Root.{Root}
 
 pub adds_refl : (f : List ℕ) (n : ℕ) → Adds f n f n
 adds_refl f n = record { more = omega arith; size = refl; before = λ i l. refl; behind = λ i l. refl }
@@ -110,7 +110,7 @@ answered_added : (m : ℕ) (f vs : List ℕ) (n : ℕ) (o : Drawing) → AllAdde
 answered_added m f vs n (whole n' f' vs') h = h
 answered_added m f vs n broken h = tt
 
-pub adds_gates : (l q t f : List ℕ) (n : ℕ) (old f' vs : List ℕ) (r : Result Drawn Short) → ◌≡◌ {A = Found} (r, f', vs) (interpolation l q t f n old)
+pub adds_gates : (l q t f : List ℕ) (n : ℕ) (old f' vs : List ℕ) (r : Result Root Short) → ◌≡◌ {A = Found} (r, f', vs) (interpolation l q t f n old)
     → IfOk r (λ d. Adds f n f' d.gates)
 adds_gates l q t f n old f' vs r is =
     subst (λ (found : Found). IfOk found.0 (λ d. Adds f n found.1 d.gates)) (sym is)

@@ -14,7 +14,7 @@ use Rattle.interpolant.specs.Drawing.{or_shared, draw_step, draw_line, Drawing, 
 use Rattle.interpolant.specs.Interpolation.{Cut, line_count}
 use Rattle.interpolant.specs.Parting.{width_in, cut_of}
 use Rattle.interpolant.specs.declared.draw.Short.{Short}
-use Rattle.interpolant.specs.declared.draw.Drawn.{Drawn}
+use Rattle.formula.specs.declared.root.Root.{Root}
 
 module _ (w : ℕ) where
   -- at most c gates more, unless there is no room for as many
@@ -150,7 +150,7 @@ answered_needs : (l q t f : List ℕ) (n : ℕ) (vs : List ℕ) (o : Drawing) �
 answered_needs l q t f n vs (whole n' f' vs') h = h
 answered_needs l q t f n vs broken h = h
 
-pub needs_gates : (l q t f : List ℕ) (n : ℕ) (old f' vs : List ℕ) (r : Result Drawn Short) → ◌≡◌ {A = Found} (r, f', vs) (interpolation l q t f n old) → NeedsGates l q t f n r
+pub needs_gates : (l q t f : List ℕ) (n : ℕ) (old f' vs : List ℕ) (r : Result Root Short) → ◌≡◌ {A = Found} (r, f', vs) (interpolation l q t f n old) → NeedsGates l q t f n r
 needs_gates l q t f n old f' vs r is =
     subst (λ (found : Found). NeedsGates l q t f n found.0) (sym is)
     (cond_both (leb (line_count q t) (length (counted old))) _ _ (λ (found : Found). NeedsGates l q t f n found.0)

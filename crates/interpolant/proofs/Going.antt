@@ -17,7 +17,7 @@ use Rattle.answer.specs.Steps.{step_count, step_of}
 use Rattle.answer.specs.declared.steps.Step.{Step}
 use Rattle.interpolant.specs.declared.draw.Short.{Short}
 use Rattle.interpolant.specs.declared.draw.Short.TheVariants.{LineValues, Formula}
-use Rattle.interpolant.specs.declared.draw.Drawn.{Drawn}
+use Rattle.formula.specs.declared.root.Root.{Root}
 use Rattle.interpolant.specs.Interpolation.{Cut, line_count}
 use Rattle.interpolant.specs.Drawing.{or_shared, draw_step, draw_line, Drawing, whole, broken, proceed, draw_lines, Found, cleared, answered, draw_all, interpolation, Stays, Gives}
 use Rattle.interpolant.specs.Parting.{width_in, parts_of, cut_by, cut_of, latch_in}
@@ -129,7 +129,7 @@ module _ (u : Parts) (ys : List ℕ) (i : ℕ) where
 
 -- ---- a step
 -- what is drawn, by what AND or OR answers
-abbrev drawn_by : Option Literal → Builder → Option Drawn
+abbrev drawn_by : Option Literal → Builder → Option Root
 drawn_by (Some x) g = Some (record { literal = x; gates = g.count })
 drawn_by None g = None
 
@@ -238,7 +238,7 @@ module _ (w : ℕ) (u : Cut) (q t : List ℕ) (n : ℕ) (f vs : List ℕ) (few_c
 
 -- where of each list the front counts
 pub interpolation_by : (l q t : List ℕ) (n : ℕ) (f old : List ℕ) (u : Parts) → u ≡ parts_of l q n → (q' t' : List ℕ) → q' ≡ q → t' ≡ t
-    → (len : ℕ) → len ≡ min (length old) (2 ^ 28) → (r : Result Drawn Short) (f' vs : List ℕ)
+    → (len : ℕ) → len ≡ min (length old) (2 ^ 28) → (r : Result Root Short) (f' vs : List ℕ)
     → ◌≡◌ {A = Found} (r, f', vs) (draw_all u.width (cut_by u) q' t' n f (take (len - 0) old))
     → ◌≡◌ {A = Found} (r, f', vs ++ post_of 0 (len - 0) old) (interpolation l q t f n old)
 interpolation_by l q t n f old u parts q' t' is-q is-t len cut r f' vs e =

@@ -16,7 +16,7 @@ use Rattle.interpolant.specs.Interpolation.{Cut, Partial, First, Second, line_co
 use Rattle.interpolant.specs.Meaning.{latches_at, value_under, DrawsFormula, Annotates, Interpolates, IsPath, Between, SeparatesPath, LiesBetween, InterpolatesPath}
 use Rattle.interpolant.specs.Parting.{width_in, cut_of}
 use Rattle.interpolant.specs.declared.draw.Short.{Short}
-use Rattle.interpolant.specs.declared.draw.Drawn.{Drawn}
+use Rattle.formula.specs.declared.root.Root.{Root}
 use Rattle.interpolant.proofs.Annotating.{Ordered, Good, Ends, good_all, partial, partial_same}
 use Rattle.interpolant.proofs.Gathering.{Latched}
 use Rattle.interpolant.proofs.Pathways.{legal_wide, sound, parted, first_from, second_from, value_by, step_given, path_given}
@@ -110,10 +110,10 @@ module _ (l q t f : List ℕ) (n : ℕ) where
           }
 
   -- ---- what a caller is told
-  abbrev AllTold : List ℕ → List ℕ → Drawn → Type 0
+  abbrev AllTold : List ℕ → List ℕ → Root → Type 0
   AllTold f' vs d = DrawsFormula l f n f' d × Annotates l q t f n f' vs d × Interpolates l q t f n f' d × LiesBetween l q t f n f' d × InterpolatesPath l q t f n f' d
 
-  abbrev Told : List ℕ → List ℕ → Result Drawn Short → Type 0
+  abbrev Told : List ℕ → List ℕ → Result Root Short → Type 0
   Told f' vs r = IfOk r (AllTold f' vs)
 
   by_drawing : (vs rest : List ℕ) (o : Drawing) → ((legal : Legal l) → Gates s f n → Ends s u (latched legal) q t f n (line_count q t) o)
@@ -144,7 +144,7 @@ module _ (l q t f : List ℕ) (n : ℕ) where
       (good_all s u (latched legal) q t f n (replicate (length vs) 0) (zeros (length vs)) (omega (arith, leb-true (line_count q t) (length vs) e, length-replicate {A = ℕ} (length vs) 0)) gates)))
       (λ e. tt)
 
-  module _ (old f' vs : List ℕ) (r : Result Drawn Short) (is : ◌≡◌ {A = Found} (r, f', vs) (interpolation l q t f n old)) where
+  module _ (old f' vs : List ℕ) (r : Result Root Short) (is : ◌≡◌ {A = Found} (r, f', vs) (interpolation l q t f n old)) where
     all_told : Told f' vs r
     all_told = subst (λ (found : Found). Told found.1 found.2 found.0) (sym is) (told (counted old) (uncounted old))
 

@@ -6,7 +6,7 @@ use Rattle.interpolant.specs.Drawing.{Drawing, whole, broken, draw_lines, Found,
 use Rattle.interpolant.specs.Interpolation.{line_count}
 use Rattle.interpolant.specs.Parting.{width_in, cut_of}
 use Rattle.interpolant.specs.declared.draw.Short.{Short}
-use Rattle.interpolant.specs.declared.draw.Drawn.{Drawn}
+use Rattle.formula.specs.declared.root.Root.{Root}
 
 module _ (l q t f : List ℕ) (n : ℕ) where
   abbrev Which : List ℕ → Found → Type 0
@@ -16,7 +16,7 @@ module _ (l q t f : List ℕ) (n : ℕ) where
   by_drawing old room (whole n' f' vs) = room
   by_drawing old room broken = (room, refl, refl)
 
-  pub says_which : (old f' vs : List ℕ) (r : Result Drawn Short) → ◌≡◌ {A = Found} (r, f', vs) (interpolation l q t f n old) → SaysWhich q t f old (r, f', vs)
+  pub says_which : (old f' vs : List ℕ) (r : Result Root Short) → ◌≡◌ {A = Found} (r, f', vs) (interpolation l q t f n old) → SaysWhich q t f old (r, f', vs)
   says_which old f' vs r is =
       subst (SaysWhich q t f old) (sym is)
       (cond_both (leb (line_count q t) (length (counted old))) _ _ (Which old)

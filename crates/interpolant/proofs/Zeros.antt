@@ -10,7 +10,7 @@ use Rattle.formula.specs.Conjunction.{Outcome, grown, short}
 use Rattle.interpolant.specs.Drawing.{draw_line, Drawing, whole, broken, proceed, draw_lines, Found, answered, draw_all, interpolation, ZeroFrom}
 use Rattle.interpolant.specs.Interpolation.{Cut, line_count}
 use Rattle.interpolant.specs.Parting.{width_in, cut_of}
-use Rattle.interpolant.specs.declared.draw.Drawn.{Drawn}
+use Rattle.formula.specs.declared.root.Root.{Root}
 use Rattle.interpolant.specs.declared.draw.Short.{Short}
 
 pub zeros : (n j : ℕ) → ◌≡◌ {A = ℕ} (get_or (replicate n 0) j 0) 0
@@ -59,7 +59,7 @@ behind_all w u q t n f vs =
     behind_by (line_count q t) f vs o (subst (λ (i : ℕ). Keeps (replicate (length vs) 0) i o) z (keeps_lines w u q t (line_count q t) 0 (replicate (length vs) 0) n f)))
     (λ e. tt)
 
-module _ (l q t f : List ℕ) (n : ℕ) (old f' vs : List ℕ) (r : Result Drawn Short) (is : ◌≡◌ {A = Found} (r, f', vs) (interpolation l q t f n old)) where
+module _ (l q t f : List ℕ) (n : ℕ) (old f' vs : List ℕ) (r : Result Root Short) (is : ◌≡◌ {A = Found} (r, f', vs) (interpolation l q t f n old)) where
   abbrev found : Found
   found = draw_all (width_in l) (cut_of l q n) q t n f (counted old)
 

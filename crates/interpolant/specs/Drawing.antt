@@ -12,7 +12,7 @@ use Rattle.interpolant.specs.Interpolation.{Cut, line_count}
 use Rattle.interpolant.specs.Parting.{width_in, cut_of}
 use Rattle.interpolant.specs.declared.draw.Short.{Short}
 use Rattle.interpolant.specs.declared.draw.Short.TheVariants.{LineValues, Formula}
-use Rattle.interpolant.specs.declared.draw.Drawn.{Drawn}
+use Rattle.formula.specs.declared.root.Root.{Root}
 
 -- ---- the lines, one by one: f is a formula list with n gates, and the lines before have the literals vs
 -- the OR of x and of the shared literals of a clause, each as the latch's literal that it is of in frame 1
@@ -51,7 +51,7 @@ draw_lines w u q t (suc m) k vs n f =
 
 -- ---- the answer, with the formula list and the line value list at the end
 abbrev pub Found : Type 0
-Found = Result Drawn Short × List ℕ × List ℕ
+Found = Result Root Short × List ℕ × List ℕ
 
 -- what counts of a list is 0
 abbrev pub cleared : List ℕ → List ℕ
@@ -97,7 +97,7 @@ abbrev pub HasRoom : ℕ → ℕ → ℕ → List ℕ → Type 0
 HasRoom w c n f = (2 * (n + c) ≤ length (counted f)) × (w + n + c ≤ 2 ^ 31)
 
 -- no more are drawn, and the formula list is short only where there is no room for so many
-abbrev pub NeedsGates : List ℕ → List ℕ → List ℕ → List ℕ → ℕ → Result Drawn Short → Type 0
+abbrev pub NeedsGates : List ℕ → List ℕ → List ℕ → List ℕ → ℕ → Result Root Short → Type 0
 NeedsGates l q t f n (Ok d) = d.gates ≤ n + most_gates q t
 NeedsGates l q t f n (Err LineValues) = Unit {0}
 NeedsGates l q t f n (Err Formula) = HasRoom (width_in l) (most_gates q t) n f → ⊥
@@ -115,7 +115,7 @@ pub record Stays (f f' : List ℕ) : Type 0 where
   pub rest : uncounted f' ≡ uncounted f
 
 -- a line's literal and the gates then, with the list at the end; or no room
-abbrev pub Gives : Option Drawn → List ℕ → Outcome → Type 0
+abbrev pub Gives : Option Root → List ℕ → Outcome → Type 0
 Gives r f o = MatchOption r (o ≡ short) (λ d. o ≡ grown d.literal.0 d.gates f)
 
 abbrev pub GivesAll : Option ℕ → List ℕ → List ℕ → Drawing → Type 0

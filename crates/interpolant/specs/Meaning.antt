@@ -12,7 +12,7 @@ use Rattle.answer.specs.Derivations.{Derives}
 use Rattle.answer.specs.Steps.{step_count}
 use Rattle.interpolant.specs.Interpolation.{Cut, Parted, Partial, First, Second, line_count}
 use Rattle.interpolant.specs.Parting.{cut_of}
-use Rattle.interpolant.specs.declared.draw.Drawn.{Drawn}
+use Rattle.formula.specs.declared.root.Root.{Root}
 
 -- the latch bits that an assignment has in frame 1, and the value of a formula there
 abbrev pub latches_at : Sheet → (ℕ → Bool) → ℕ → Bool
@@ -27,11 +27,11 @@ pub record Draws (s : Sheet) (f : List ℕ) (n : ℕ) (f' : List ℕ) (n' x : �
   pub extends : Extends s f n f' n'
   pub formula : Formula s n' x
 
-abbrev pub DrawsFormula : List ℕ → List ℕ → ℕ → List ℕ → Drawn → Type 0
+abbrev pub DrawsFormula : List ℕ → List ℕ → ℕ → List ℕ → Root → Type 0
 DrawsFormula l f n f' d = Legal l → Gates (sheet_of l) f n → Draws (sheet_of l) f n f' d.gates d.literal.0
 
 -- the line values vs are, under every assignment, the partial interpolants of a derivation
-abbrev pub Annotates : List ℕ → List ℕ → List ℕ → List ℕ → ℕ → List ℕ → List ℕ → Drawn → Type 0
+abbrev pub Annotates : List ℕ → List ℕ → List ℕ → List ℕ → ℕ → List ℕ → List ℕ → Root → Type 0
 Annotates l q t f n f' vs d =
     Legal l → Gates (sheet_of l) f n → (derived : ℕ → List ℕ) → Derives q t derived → (α : ℕ → Bool)
     → Partial q t (cut_of l q n) α (line_count q t) (λ k. value_under (sheet_of l) f' d.gates α (slice_index vs k))
@@ -42,7 +42,7 @@ pub record Interpolant (q : List ℕ) (u : Cut) (P : (ℕ → Bool) → Bool) : 
   pub refuted : (α : ℕ → Bool) → Second q u α → P α ≡ false
   pub of_shared : (α β : ℕ → Bool) → ((v : ℕ) → u.shared v ≡ true → α v ≡ β v) → P α ≡ P β
 
-abbrev pub Interpolates : List ℕ → List ℕ → List ℕ → List ℕ → ℕ → List ℕ → Drawn → Type 0
+abbrev pub Interpolates : List ℕ → List ℕ → List ℕ → List ℕ → ℕ → List ℕ → Root → Type 0
 Interpolates l q t f n f' d =
     Legal l → Gates (sheet_of l) f n → IsQuestion q → Parted q (cut_of l q n) → 1 ≤ step_count t
     → (derived : ℕ → List ℕ) → Derives q t derived → Interpolant q (cut_of l q n) (λ α. value_under (sheet_of l) f' d.gates α d.literal.0)
@@ -74,11 +74,11 @@ OfPath l q t f n So =
     (asked : List ℕ) (r k : ℕ) → Legal l → Gates (sheet_of l) f n → Gates (sheet_of l) asked n → Formula (sheet_of l) n r
     → IsPath q (sheet_of l) asked n r k → 1 ≤ step_count t → (derived : ℕ → List ℕ) → Derives q t derived → So asked r k
 
-abbrev pub InterpolatesPath : List ℕ → List ℕ → List ℕ → List ℕ → ℕ → List ℕ → Drawn → Type 0
+abbrev pub InterpolatesPath : List ℕ → List ℕ → List ℕ → List ℕ → ℕ → List ℕ → Root → Type 0
 InterpolatesPath l q t f n f' d = OfPath l q t f n (λ asked r k. SeparatesPath (sheet_of l) asked n r k f' d.gates d.literal.0)
 
 -- the question's formula gates may lie in any list
-abbrev pub LiesBetween : List ℕ → List ℕ → List ℕ → List ℕ → ℕ → List ℕ → Drawn → Type 0
+abbrev pub LiesBetween : List ℕ → List ℕ → List ℕ → List ℕ → ℕ → List ℕ → Root → Type 0
 LiesBetween l q t f n f' d =
     (asked : List ℕ) (r k : ℕ) → Legal l → Gates (sheet_of l) f n → Gates (sheet_of l) asked n → Formula (sheet_of l) n r
     → IsPath q (sheet_of l) asked n r k → 1 ≤ step_count t → (derived : ℕ → List ℕ) → Derives q t derived

@@ -8,16 +8,10 @@ ghost use Rattle.interpolant.specs.Parting.{cut_by};
 
 use crate::lines::Drawing;
 use crate::parts::Parts;
+use formula::root::Root;
 use lists::{counted, counted_len};
 use question::read::{clause_count, number_at};
 use sheet::literal::Literal;
-
-// A literal of the formula list, and how many gates the list has.
-#[derive(Clone, Copy)]
-pub struct Drawn {
-    pub literal: Literal,
-    pub gates: u32,
-}
 
 // Which list has no room.
 #[derive(Clone, Copy, PartialEq, Eq, Debug)]
@@ -40,7 +34,7 @@ fn draw(
     formula: &mut [u32],
     gates: u32,
     values: &mut [u32],
-) -> Result<Drawn, Short>
+) -> Result<Root, Short>
     requires { length values.old ≤ 2 ^ 28 }
     ensures { (result, formula.new, values.new) ≡ draw_all drawing.now.parts.width (cut_by drawing.now.parts) drawing.now.question.now drawing.now.refutation.now gates formula.old values.old }
 {
@@ -56,7 +50,7 @@ fn draw(
         return Err(Short::Formula);
     };
     let last = number_at(values, lines.saturating_sub(1));
-    Ok(Drawn {
+    Ok(Root {
         literal: Literal::from_number(last),
         gates,
     })
@@ -77,7 +71,7 @@ pub fn interpolate(
     formula: &mut [u32],
     gates: u32,
     line_values: &mut [u32],
-) -> Result<Drawn, Short>
+) -> Result<Root, Short>
     ensures draws_each_line_in_order { (result, formula.new, line_values.new) ≡ interpolation (counted sheet.now) (counted question.now) (counted refutation.now) formula.old gates line_values.old }
     ensures says_which_list_is_short { SaysWhich (counted question.now) (counted refutation.now) formula.old line_values.old (result, formula.new, line_values.new) }
     ensures line_values_are_zero_behind_the_lines { OnOk result (ZeroFrom (line_count (counted question.now) (counted refutation.now)) (counted line_values.new)) }

@@ -3,16 +3,16 @@ ghost use Rattle.std.specs.Prelude.{◌≡◌, ◌^◌, ◌≤◌, length};
 ghost use Rattle.interpolant.specs.Drawing.{or_shared, draw_step, draw_line, draw_lines, Stays, Gives, GivesAll};
 ghost use Rattle.interpolant.specs.Parting.{cut_by};
 
-use crate::draw::Drawn;
 use crate::parts::Parts;
 use answer::steps::{Step, step_at};
 use formula::builder::Builder;
 use formula::question_literal::QuestionLiteral;
+use formula::root::Root;
 use question::read::{clause, clause_count, number_at};
 use sheet::literal::Literal;
 
 // The OR of a clause's shared literals, each as the literal of a latch.
-fn draw_clause(parts: Parts, clause: &[u32], formula: &mut [u32], gates: u32) -> Option<Drawn>
+fn draw_clause(parts: Parts, clause: &[u32], formula: &mut [u32], gates: u32) -> Option<Root>
     ensures gives { Gives result formula.new (or_shared parts.width (cut_by parts) clause.now 0 gates formula.old) }
     ensures keeps { Stays formula.old formula.new }
 {
@@ -26,7 +26,7 @@ fn draw_clause(parts: Parts, clause: &[u32], formula: &mut [u32], gates: u32) ->
             literal = builder.or(formula, literal, latch)?;
         }
     }
-    Some(Drawn {
+    Some(Root {
         literal,
         gates: builder.count,
     })
@@ -39,7 +39,7 @@ fn draw_step(
     values: &[u32],
     formula: &mut [u32],
     gates: u32,
-) -> Option<Drawn>
+) -> Option<Root>
     ensures gives { Gives result formula.new (draw_step parts.width (cut_by parts) values.now step gates formula.old) }
     ensures keeps { Stays formula.old formula.new }
 {
@@ -54,7 +54,7 @@ fn draw_step(
     } else {
         builder.and(formula, first, second)?
     };
-    Some(Drawn {
+    Some(Root {
         literal,
         gates: builder.count,
     })
@@ -72,7 +72,7 @@ pub(crate) struct Drawing<'a> {
 
 impl Drawing<'_> {
     // A clause of the question, or a step. A clause of the second part is 1.
-    fn line(&self, line: u32, values: &[u32], formula: &mut [u32], gates: u32) -> Option<Drawn>
+    fn line(&self, line: u32, values: &[u32], formula: &mut [u32], gates: u32) -> Option<Root>
         ensures gives { Gives result formula.new (draw_line self.now.parts.width (cut_by self.now.parts) self.now.question.now self.now.refutation.now values.now line gates formula.old) }
         ensures keeps { Stays formula.old formula.new }
     {
@@ -82,7 +82,7 @@ impl Drawing<'_> {
             return draw_step(self.parts, step, values, formula, gates);
         }
         if line >= self.parts.first {
-            return Some(Drawn {
+            return Some(Root {
                 literal: Literal::from_number(1),
                 gates,
             });

@@ -3,8 +3,9 @@
 
 use answer::refutations::check_refutation;
 use anyhow::anyhow;
-use formula::start::{Started, start_formula};
-use interpolant::draw::{Drawn, interpolate};
+use formula::root::Root;
+use formula::start::start_formula;
+use interpolant::draw::interpolate;
 use machine::simulate::simulate_bits;
 use question::build::{inclusion_question, path_question, start_question};
 use question::read::{clause_count, first_count, variable_count};
@@ -128,8 +129,8 @@ fn show_question(
 }
 
 // The three questions: about the start states R, and about P, the states in which no weight has been taken for a number.
-fn ask(rt: &HostRuntime, list: &[u32], formula: &[u32], start: Started) -> anyhow::Result<()> {
-    let gates = start.count;
+fn ask(rt: &HostRuntime, list: &[u32], formula: &[u32], start: Root) -> anyhow::Result<()> {
+    let gates = start.gates;
     let r = start.literal;
     let p = Literal::from_number(11);
     let mut question = [0; QUESTION_PLACES];
@@ -156,11 +157,11 @@ fn judge(
     rt: &HostRuntime,
     list: &[u32],
     formula: &mut [u32],
-    start: Started,
+    start: Root,
     refutation: &[u32],
 ) -> anyhow::Result<()> {
     let mut question = [0; QUESTION_PLACES];
-    let Some(len) = path_question(list, formula, start.count, start.literal, 0, &mut question)
+    let Some(len) = path_question(list, formula, start.gates, start.literal, 0, &mut question)
     else {
         return Err(anyhow!("no room for a question"));
     };
@@ -175,7 +176,7 @@ fn judge(
         question,
         refutation,
         formula,
-        start.count,
+        start.gates,
         &mut values,
     ) else {
         return Err(anyhow!("no room for the drawing"));
@@ -188,7 +189,7 @@ fn show_drawn(
     rt: &HostRuntime,
     work: &[u32; QUESTION_PLACES],
     refutation: &[u32],
-    drawn: Drawn,
+    drawn: Root,
 ) -> anyhow::Result<()> {
     let steps = refutation.first().copied().unwrap_or(0);
     let literals = work[steps as usize % QUESTION_PLACES].saturating_sub(steps.saturating_add(1));
@@ -207,7 +208,7 @@ fn pose(rt: &HostRuntime, list: &[u32], refutation: &[u32]) -> anyhow::Result<()
         return Err(anyhow!("no room for the start formula"));
     };
     let literal = start.literal.number();
-    let gates = start.count;
+    let gates = start.gates;
     println!(rt; "  start formula: literal {literal}, {gates} gates")?;
     ask(rt, list, &formula, start)?;
     if refutation.is_empty() {
