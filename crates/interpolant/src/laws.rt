@@ -3,11 +3,6 @@ ghost use Rattle.interpolant.specs.Example.{Example};
 ghost use Rattle.interpolant.specs.Interpolation.{Determined, Separates};
 ghost use Rattle.interpolant.specs.Meaning.{PathParted};
 
-pub fn laws_hold()
-    ensures partial_interpolants_separate { Separates }
-    ensures path_questions_are_parted { PathParted }
-{}
-
 // Wherever a question is cut in two, the partial interpolant of a refutation's last line is true where the first part is and false
 // where the second is; and path questions are cut so.
 pub fn interpolants_separate()

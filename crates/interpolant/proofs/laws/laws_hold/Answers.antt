@@ -1,6 +1,0 @@
-use Rattle.interpolant.proofs.Pathways.{path_parted}
-use Rattle.interpolant.proofs.Separating.{separates}
-use Rattle.interpolant.proofs.laws.laws_hold.Goals as goal
-
-pub returns : goal.returns
-returns c = record { partial_interpolants_separate = separates; path_questions_are_parted = path_parted }
