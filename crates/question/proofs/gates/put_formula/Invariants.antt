@@ -7,6 +7,6 @@ use Rattle.question.proofs.gates.put_formula.Given as goal
 
 abbrev pub invariant-loop-g : goal.invariant-loop-g
 invariant-loop-g l =
-    (puts (l.question, l.pen) (stretch (formula_gate (sheet_of l.sheet) l.frames l.formula) l.g (l.gates - l.g))
-    ≡ puts (l.initial.question, l.initial.pen) (stretch (formula_gate (sheet_of l.sheet) l.frames l.formula) 0 l.gates))
+    (puts (l.question, l.pen) (stretch (formula_gate (sheet_of l.sheet.numbers.now) l.frames l.gates.list.now) l.g (l.gates.count - l.g))
+    ≡ puts (l.initial.question, l.initial.pen) (stretch (formula_gate (sheet_of l.sheet.numbers.now) l.frames l.gates.list.now) 0 l.gates.count))
     × Moved l.initial.pen l.pen (3 * l.g) (7 * l.g)

@@ -8,9 +8,9 @@ use Rattle.question.proofs.path.put_first.Goals as goal
 
 pub returns : goal.returns
 returns c =
-    let s : Sheet = sheet_of c.args.sheet.now in
-    let f = c.args.formula.now in
-    let n = c.args.gates in
+    let s : Sheet = sheet_of c.args.sheet.numbers.now in
+    let f = c.args.gates.list.now in
+    let n = c.args.gates.count in
     let k = c.args.k in
     let p : List ℕ × Pen = (c.args.question.now, c.args.pen) in
     let both : List ℕ × Pen = (c.put_formula-pen.new.question, c.put_formula-pen.result) in

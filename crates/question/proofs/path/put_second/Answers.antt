@@ -8,7 +8,7 @@ use Rattle.question.proofs.path.put_second.Goals as goal
 
 pub returns : goal.returns
 returns c =
-    let s : Sheet = sheet_of c.args.sheet.now in
+    let s : Sheet = sheet_of c.args.sheet.numbers.now in
     let k = c.args.k in
     let p : List ℕ × Pen = (c.args.question.now, c.args.pen) in
     record {

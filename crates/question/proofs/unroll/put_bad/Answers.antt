@@ -8,7 +8,7 @@ use Rattle.question.proofs.unroll.put_bad.Goals as goal
 
 pub loop-t-preserved : goal.loop-t-preserved
 loop-t-preserved c =
-    let s = sheet_of c.args.sheet.now in
+    let s = sheet_of c.args.sheet.numbers.now in
     let t = c.loop-t.t in
     let page = c.push_literal-pen.ensures.page ∙ ap (pushed (c.loop-t.question, c.loop-t.pen)) c.bad_in.ensures in
     (turn_one (λ t. in_frame (width s) t s.bad) _ _ t (c.args.k + 2) c.loop-t.invariant.0 _ (omega arith) page, (omega arith, omega arith))

@@ -8,7 +8,7 @@ use Rattle.question.proofs.unroll.put_bad.Given as goal
 
 abbrev pub invariant-loop-t : goal.invariant-loop-t
 invariant-loop-t l =
-    let s = sheet_of l.sheet in
+    let s = sheet_of l.sheet.numbers.now in
     (pushes (l.question, l.pen) (stretch (λ t. in_frame (width s) t s.bad ∷ []) l.t (l.k + 2 - l.t))
     ≡ pushes (l.initial.question, l.initial.pen) (stretch (λ t. in_frame (width s) t s.bad ∷ []) 1 (l.k + 1)))
     × Moved l.initial.pen l.pen 0 (l.t - 1)

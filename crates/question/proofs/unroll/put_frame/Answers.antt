@@ -6,5 +6,5 @@ use Rattle.question.proofs.unroll.put_frame.Goals as goal
 
 pub loop-g-preserved : goal.loop-g-preserved
 loop-g-preserved c =
-    let l = c.args.sheet.now in
+    let l = c.args.sheet.numbers.now in
     (turn (gate_clauses (sheet_of l) c.args.t) _ _ c.loop-g.g (gate_count l) c.loop-g.invariant.0 _ (omega arith) c.put_gate-pen.ensures.page, (omega arith, omega arith))

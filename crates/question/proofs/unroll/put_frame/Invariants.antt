@@ -7,6 +7,6 @@ use Rattle.question.proofs.unroll.put_frame.Given as goal
 
 abbrev pub invariant-loop-g : goal.invariant-loop-g
 invariant-loop-g l =
-    (puts (l.question, l.pen) (stretch (gate_clauses (sheet_of l.sheet) l.t) l.g (gate_count l.sheet - l.g))
-    ≡ puts (l.initial.question, l.initial.pen) (stretch (gate_clauses (sheet_of l.sheet) l.t) 0 (gate_count l.sheet)))
+    (puts (l.question, l.pen) (stretch (gate_clauses (sheet_of l.sheet.numbers.now) l.t) l.g (gate_count l.sheet.numbers.now - l.g))
+    ≡ puts (l.initial.question, l.initial.pen) (stretch (gate_clauses (sheet_of l.sheet.numbers.now) l.t) 0 (gate_count l.sheet.numbers.now)))
     × Moved l.initial.pen l.pen (3 * l.g) (7 * l.g)

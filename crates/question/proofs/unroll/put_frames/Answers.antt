@@ -7,14 +7,14 @@ use Rattle.question.proofs.unroll.put_frames.Goals as goal
 pub put_frame-pen-requires : goal.put_frame-pen-requires
 put_frame-pen-requires c =
     let t = c.loop-t.t in
-    let n = gate_count c.args.sheet.now in
+    let n = gate_count c.args.sheet.numbers.now in
     let a = row_room t (c.args.k + 1) (1 + 3 * n) (omega arith) (omega arith) in
     let b = row_room t (c.args.k + 1) (1 + 7 * n) (omega arith) (omega arith) in
-    record { legal = c.requires.legal; place = omega arith; room = (omega arith, omega arith, omega arith) }
+    record { place = omega arith; room = (omega arith, omega arith, omega arith) }
 
 pub loop-t-preserved : goal.loop-t-preserved
 loop-t-preserved c =
-    let l = c.args.sheet.now in
+    let l = c.args.sheet.numbers.now in
     let t = c.loop-t.t in
     let a = row_more t (1 + 3 * gate_count l) (omega arith) in
     let b = row_more t (1 + 7 * gate_count l) (omega arith) in

@@ -6,5 +6,5 @@ use Rattle.question.proofs.unroll.put_link.Goals as goal
 
 pub loop-i-preserved : goal.loop-i-preserved
 loop-i-preserved c =
-    let l = c.args.sheet.now in
+    let l = c.args.sheet.numbers.now in
     (turn (latch_clauses (sheet_of l) c.args.t) _ _ c.loop-i.i (latch_count l) c.loop-i.invariant.0 _ (omega arith) c.put_latch-pen.ensures.page, (omega arith, omega arith))

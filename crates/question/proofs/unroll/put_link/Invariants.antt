@@ -7,6 +7,6 @@ use Rattle.question.proofs.unroll.put_link.Given as goal
 
 abbrev pub invariant-loop-i : goal.invariant-loop-i
 invariant-loop-i l =
-    (puts (l.question, l.pen) (stretch (latch_clauses (sheet_of l.sheet) l.t) l.i (latch_count l.sheet - l.i))
-    ≡ puts (l.initial.question, l.initial.pen) (stretch (latch_clauses (sheet_of l.sheet) l.t) 0 (latch_count l.sheet)))
+    (puts (l.question, l.pen) (stretch (latch_clauses (sheet_of l.sheet.numbers.now) l.t) l.i (latch_count l.sheet.numbers.now - l.i))
+    ≡ puts (l.initial.question, l.initial.pen) (stretch (latch_clauses (sheet_of l.sheet.numbers.now) l.t) 0 (latch_count l.sheet.numbers.now)))
     × Moved l.initial.pen l.pen (2 * l.i) (4 * l.i)

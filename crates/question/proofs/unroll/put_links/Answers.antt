@@ -7,14 +7,14 @@ use Rattle.question.proofs.unroll.put_links.Goals as goal
 pub put_link-pen-requires : goal.put_link-pen-requires
 put_link-pen-requires c =
     let t = c.loop-t.t in
-    let n = latch_count c.args.sheet.now in
+    let n = latch_count c.args.sheet.numbers.now in
     let a = row_room t c.args.k (2 * n) (omega arith) (omega arith) in
     let b = row_room t c.args.k (4 * n) (omega arith) (omega arith) in
-    record { legal = c.requires.legal; place = omega arith; room = (omega arith, omega arith, omega arith) }
+    record { place = omega arith; room = (omega arith, omega arith, omega arith) }
 
 pub loop-t-preserved : goal.loop-t-preserved
 loop-t-preserved c =
-    let l = c.args.sheet.now in
+    let l = c.args.sheet.numbers.now in
     let t = c.loop-t.t in
     let a = row_more t (2 * latch_count l) (omega arith) in
     let b = row_more t (4 * latch_count l) (omega arith) in
