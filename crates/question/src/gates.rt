@@ -6,9 +6,9 @@ ghost use Rattle.sheet.specs.Sheets.{sheet_of};
 ghost use Rattle.formula.specs.Formulas.{width, left_of, right_of};
 ghost use Rattle.formula.specs.Framing.{in_question};
 ghost use Rattle.question.specs.Clauses.{formula_gate, formula_clauses};
-ghost use Rattle.question.specs.Writing.{puts, Room, Moved, OperandsFit};
+ghost use Rattle.question.specs.Writing.{held, puts, Room, Moved, OperandsFit};
 
-use crate::pen::{Pen, put_and};
+use crate::page::Page;
 use formula::frame::in_question;
 use formula::question_literal::QuestionLiteral;
 use lists::counted;
@@ -84,47 +84,42 @@ impl<'a> GateList<'a> {
 
 // The three clauses of gate `g` of a list.
 fn put_formula_gate(
-    question: &mut [u32],
-    pen: Pen,
+    page: &mut Page<'_>,
     sheet: LegalSheet<'_>,
     frames: u32,
     gates: GateList<'_>,
     g: u32,
-) -> Pen
+)
     requires bound { (1 ≤ frames) × (frames ≤ 32) }
     requires place { g < gates.count }
     requires bits { OperandsFit (width (sheet_of sheet.numbers.now)) frames gates.list.now gates.count }
-    requires room { Room question.old pen 3 7 }
-    ensures page { (question.new, result) ≡ puts (question.old, pen) (formula_gate (sheet_of sheet.entry.numbers.now) frames gates.entry.list.now g) }
-    ensures moved { Moved pen result 3 7 }
+    requires room { Room page.old 3 7 }
+    ensures page { held page.new ≡ puts (held page.old) (formula_gate (sheet_of sheet.entry.numbers.now) frames gates.entry.list.now g) }
+    ensures moved { Moved page.old page.new 3 7 }
 {
     let gate = Literal::from_number(2 * (sheet.width() + g));
     let (left, right) = gates.operands(g);
-    put_and(
-        question,
-        pen,
+    page.put_and(
         placed(sheet, frames, gate),
         placed(sheet, frames, left),
         placed(sheet, frames, right),
-    )
+    );
 }
 
 // All gates of a list.
 pub(crate) fn put_formula(
-    question: &mut [u32],
-    mut pen: Pen,
+    page: &mut Page<'_>,
     sheet: LegalSheet<'_>,
     frames: u32,
     gates: GateList<'_>,
-) -> Pen
+)
     requires bound { (1 ≤ frames) × (frames ≤ 32) }
     requires bits { OperandsFit (width (sheet_of sheet.numbers.now)) frames gates.list.now gates.count }
-    requires room { Room question.old pen (3 * gates.count) (7 * gates.count) }
-    ensures page { (question.new, result) ≡ puts (question.old, pen) (formula_clauses (sheet_of sheet.entry.numbers.now) frames gates.entry.list.now gates.entry.count) }
-    ensures moved { Moved pen result (3 * gates.entry.count) (7 * gates.entry.count) }
+    requires room { Room page.old (3 * gates.count) (7 * gates.count) }
+    ensures page { held page.new ≡ puts (held page.old) (formula_clauses (sheet_of sheet.entry.numbers.now) frames gates.entry.list.now gates.entry.count) }
+    ensures moved { Moved page.old page.new (3 * gates.entry.count) (7 * gates.entry.count) }
 {
     for g in 0..gates.count {
-        pen = put_formula_gate(question, pen, sheet, frames, gates, g);
+        put_formula_gate(page, sheet, frames, gates, g);
     }
-    pen
 }

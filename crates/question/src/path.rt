@@ -6,46 +6,39 @@ ghost use Rattle.formula.specs.Framing.{in_question};
 ghost use Rattle.question.specs.Clauses.{first_clauses, second_clauses};
 ghost use Rattle.question.specs.Layout.{path_list, posed, written};
 ghost use Rattle.question.specs.Sizes.{first_clause_count, first_literal_count, second_clause_count, second_literal_count};
-ghost use Rattle.question.specs.Writing.{puts, Room, Moved, OperandsFit};
+ghost use Rattle.question.specs.Writing.{held, puts, Room, Moved, OperandsFit};
 
 use crate::gates::{GateList, placed, put_formula};
-use crate::pen::{Pen, begin, finish, put_clause};
+use crate::page::Page;
 use crate::size::{first_size, second_size};
 use crate::unroll::{put_bad, put_frame, put_frames, put_link, put_links};
 use sheet::legal::LegalSheet;
 use sheet::literal::Literal;
 
 // The first part of a path question: frame 0, its link, the formula gates and `r`.
-fn put_first(
-    question: &mut [u32],
-    pen: Pen,
-    sheet: LegalSheet<'_>,
-    gates: GateList<'_>,
-    r: Literal,
-    k: u32,
-) -> Pen
+fn put_first(page: &mut Page<'_>, sheet: LegalSheet<'_>, gates: GateList<'_>, r: Literal, k: u32)
     requires bound { k ≤ 30 }
     requires bits { (OperandsFit (width (sheet_of sheet.numbers.now)) (k + 2) gates.list.now gates.count) × (in_question (width (sheet_of sheet.numbers.now)) (k + 2) r.0 < 2 ^ 32) }
-    requires room { Room question.old pen (first_clause_count (sheet_of sheet.numbers.now) gates.count) (first_literal_count (sheet_of sheet.numbers.now) gates.count) }
-    ensures page { (question.new, result) ≡ puts (question.old, pen) (first_clauses (sheet_of sheet.entry.numbers.now) gates.entry.list.now gates.entry.count r.0 k) }
-    ensures moved { Moved pen result (first_clause_count (sheet_of sheet.entry.numbers.now) gates.entry.count) (first_literal_count (sheet_of sheet.entry.numbers.now) gates.entry.count) }
+    requires room { Room page.old (first_clause_count (sheet_of sheet.numbers.now) gates.count) (first_literal_count (sheet_of sheet.numbers.now) gates.count) }
+    ensures page { held page.new ≡ puts (held page.old) (first_clauses (sheet_of sheet.entry.numbers.now) gates.entry.list.now gates.entry.count r.0 k) }
+    ensures moved { Moved page.old page.new (first_clause_count (sheet_of sheet.entry.numbers.now) gates.entry.count) (first_literal_count (sheet_of sheet.entry.numbers.now) gates.entry.count) }
 {
-    let pen = put_frame(question, pen, sheet, 0);
-    let pen = put_link(question, pen, sheet, 0);
-    let pen = put_formula(question, pen, sheet, k + 2, gates);
-    put_clause(question, pen, &[placed(sheet, k + 2, r)])
+    put_frame(page, sheet, 0);
+    put_link(page, sheet, 0);
+    put_formula(page, sheet, k + 2, gates);
+    page.put_clause(&[placed(sheet, k + 2, r)]);
 }
 
 // The second part: the other frames, the links between them, and `bad` in one of them.
-fn put_second(question: &mut [u32], pen: Pen, sheet: LegalSheet<'_>, k: u32) -> Pen
+fn put_second(page: &mut Page<'_>, sheet: LegalSheet<'_>, k: u32)
     requires bound { k ≤ 30 }
-    requires room { Room question.old pen (second_clause_count (sheet_of sheet.numbers.now) k) (second_literal_count (sheet_of sheet.numbers.now) k) }
-    ensures page { (question.new, result) ≡ puts (question.old, pen) (second_clauses (sheet_of sheet.entry.numbers.now) k) }
-    ensures moved { Moved pen result (second_clause_count (sheet_of sheet.entry.numbers.now) k) (second_literal_count (sheet_of sheet.entry.numbers.now) k) }
+    requires room { Room page.old (second_clause_count (sheet_of sheet.numbers.now) k) (second_literal_count (sheet_of sheet.numbers.now) k) }
+    ensures page { held page.new ≡ puts (held page.old) (second_clauses (sheet_of sheet.entry.numbers.now) k) }
+    ensures moved { Moved page.old page.new (second_clause_count (sheet_of sheet.entry.numbers.now) k) (second_literal_count (sheet_of sheet.entry.numbers.now) k) }
 {
-    let pen = put_frames(question, pen, sheet, k);
-    let pen = put_links(question, pen, sheet, k);
-    put_bad(question, pen, sheet, k)
+    put_frames(page, sheet, k);
+    put_links(page, sheet, k);
+    put_bad(page, sheet, k);
 }
 
 // Writes a path question, in a list that has room for it.
@@ -64,10 +57,10 @@ fn write_path(
     let first = first_size(sheet, gates.count).clauses;
     let clauses = first + second_size(sheet, k).clauses;
     let variables = (k + 2) * sheet.width() + gates.count;
-    let pen = begin(question, variables, clauses, first);
-    let pen = put_first(question, pen, sheet, gates, r, k);
-    let pen = put_second(question, pen, sheet, k);
-    finish(question, pen)
+    let mut page = Page::begin(question, variables, clauses, first);
+    put_first(&mut page, sheet, gates, r, k);
+    put_second(&mut page, sheet, k);
+    page.finish()
 }
 
 // A path question, if it fits.

@@ -9,7 +9,7 @@ ghost use Rattle.question.specs.Sizes.{state_clause_count, state_literal_count};
 ghost use Rattle.question.specs.Writing.{OperandsFit};
 
 use crate::gates::{GateList, placed, put_formula};
-use crate::pen::{begin, finish, put_clause};
+use crate::page::Page;
 use crate::size::state_size;
 use crate::unroll::put_frame;
 use formula::question_literal::QuestionLiteral;
@@ -29,12 +29,12 @@ fn write_state(
     ensures { (result, question.new) ≡ written (encode (width (sheet_of sheet.entry.numbers.now) + gates.entry.count) 0 (state_clauses (sheet_of sheet.entry.numbers.now) gates.entry.list.now gates.entry.count x.0 y.0)) (length question.old) }
 {
     let size = state_size(sheet, gates.count);
-    let pen = begin(question, sheet.width() + gates.count, size.clauses, 0);
-    let pen = put_frame(question, pen, sheet, 0);
-    let pen = put_formula(question, pen, sheet, 1, gates);
-    let pen = put_clause(question, pen, &[placed(sheet, 1, x)]);
-    let pen = put_clause(question, pen, &[y]);
-    finish(question, pen)
+    let mut page = Page::begin(question, sheet.width() + gates.count, size.clauses, 0);
+    put_frame(&mut page, sheet, 0);
+    put_formula(&mut page, sheet, 1, gates);
+    page.put_clause(&[placed(sheet, 1, x)]);
+    page.put_clause(&[y]);
+    page.finish()
 }
 
 // A question of one frame, if it fits.
