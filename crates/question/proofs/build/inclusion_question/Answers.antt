@@ -12,72 +12,28 @@ use Rattle.question.proofs.Promises.{state_long, inclusion_takes, inclusion_lays
 use Rattle.question.proofs.build.inclusion_question.Goals as goal
 
 pub returns-in_err-sheet-clause-poses_the_inclusion_question : goal.returns-in_err-sheet-clause-poses_the_inclusion_question
-returns-in_err-sheet-clause-poses_the_inclusion_question c =
-    let l = c.args.sheet.now in
-    let f = c.args.formula.now in
-    let n = c.args.gates in
-    let p = c.args.p.0 in
-    let r = c.args.r.0 in
-    let old = c.args.question.now in
-    let is = posed_not (given l f n) (inclusion_list (sheet_of (counted l)) (counted f) n p r) old (and_left _ _ (sym c.in_err-sheet.ensures.is_the_test)) in
-    rw c.from_residual.ensures is
+returns-in_err-sheet-clause-poses_the_inclusion_question c = rw c.from_residual.ensures (posed_not _ (inclusion_list (sheet_of (counted c.args.sheet.now)) (counted c.args.formula.now) c.args.gates c.args.p.0 c.args.r.0) _ (and_left _ _ (sym c.in_err-sheet.ensures.is_the_test)))
 
 pub returns-in_err-sheet-clause-takes_all_that_fits : goal.returns-in_err-sheet-clause-takes_all_that_fits
-returns-in_err-sheet-clause-takes_all_that_fits c =
-    let l = c.args.sheet.now in
-    let f = c.args.formula.now in
-    let n = c.args.gates in
-    let p = c.args.p.0 in
-    let r = c.args.r.0 in
-    let old = c.args.question.now in
-    let is = posed_not (given l f n) (inclusion_list (sheet_of (counted l)) (counted f) n p r) old (and_left _ _ (sym c.in_err-sheet.ensures.is_the_test)) in
-    rw c.from_residual.ensures (inclusion_takes l f n old None old p r is)
+returns-in_err-sheet-clause-takes_all_that_fits c = rw c.from_residual.ensures (inclusion_takes c.args.sheet.now c.args.formula.now c.args.gates c.args.question.now None c.args.question.now c.args.p.0 c.args.r.0 (posed_not _ (inclusion_list (sheet_of (counted c.args.sheet.now)) (counted c.args.formula.now) c.args.gates c.args.p.0 c.args.r.0) _ (and_left _ _ (sym c.in_err-sheet.ensures.is_the_test))))
 
 pub returns-in_err-sheet-clause-asks_for_a_state_outside : goal.returns-in_err-sheet-clause-asks_for_a_state_outside
 returns-in_err-sheet-clause-asks_for_a_state_outside c = rw c.from_residual.ensures (λ _ _ _. tt)
 
 pub returns-in_err-sheet-clause-has_a_closed_length : goal.returns-in_err-sheet-clause-has_a_closed_length
-returns-in_err-sheet-clause-has_a_closed_length c =
-    let l = c.args.sheet.now in
-    let f = c.args.formula.now in
-    let n = c.args.gates in
-    let p = c.args.p.0 in
-    let r = c.args.r.0 in
-    state_long (sheet_of (counted l)) (counted f) n p (in_question (width (sheet_of (counted l))) 1 (opposite r))
+returns-in_err-sheet-clause-has_a_closed_length c = state_long (sheet_of (counted c.args.sheet.now)) _ _ _ _
 
 pub returns-in_err-gates-clause-poses_the_inclusion_question : goal.returns-in_err-gates-clause-poses_the_inclusion_question
-returns-in_err-gates-clause-poses_the_inclusion_question c =
-    let l = c.args.sheet.now in
-    let f = c.args.formula.now in
-    let n = c.args.gates in
-    let p = c.args.p.0 in
-    let r = c.args.r.0 in
-    let old = c.args.question.now in
-    let is = posed_not (given l f n) (inclusion_list (sheet_of (counted l)) (counted f) n p r) old (and_right _ _ (sym c.in_err-gates.ensures.is_the_test)) in
-    rw c.from_residual-in_err-gates.ensures is
+returns-in_err-gates-clause-poses_the_inclusion_question c = rw c.from_residual-in_err-gates.ensures (posed_not _ (inclusion_list (sheet_of (counted c.args.sheet.now)) (counted c.args.formula.now) c.args.gates c.args.p.0 c.args.r.0) _ (and_right _ _ (sym c.in_err-gates.ensures.is_the_test)))
 
 pub returns-in_err-gates-clause-takes_all_that_fits : goal.returns-in_err-gates-clause-takes_all_that_fits
-returns-in_err-gates-clause-takes_all_that_fits c =
-    let l = c.args.sheet.now in
-    let f = c.args.formula.now in
-    let n = c.args.gates in
-    let p = c.args.p.0 in
-    let r = c.args.r.0 in
-    let old = c.args.question.now in
-    let is = posed_not (given l f n) (inclusion_list (sheet_of (counted l)) (counted f) n p r) old (and_right _ _ (sym c.in_err-gates.ensures.is_the_test)) in
-    rw c.from_residual-in_err-gates.ensures (inclusion_takes l f n old None old p r is)
+returns-in_err-gates-clause-takes_all_that_fits c = rw c.from_residual-in_err-gates.ensures (inclusion_takes c.args.sheet.now c.args.formula.now c.args.gates c.args.question.now None c.args.question.now c.args.p.0 c.args.r.0 (posed_not _ (inclusion_list (sheet_of (counted c.args.sheet.now)) (counted c.args.formula.now) c.args.gates c.args.p.0 c.args.r.0) _ (and_right _ _ (sym c.in_err-gates.ensures.is_the_test))))
 
 pub returns-in_err-gates-clause-asks_for_a_state_outside : goal.returns-in_err-gates-clause-asks_for_a_state_outside
 returns-in_err-gates-clause-asks_for_a_state_outside c = rw c.from_residual-in_err-gates.ensures (λ _ _ _. tt)
 
 pub returns-in_err-gates-clause-has_a_closed_length : goal.returns-in_err-gates-clause-has_a_closed_length
-returns-in_err-gates-clause-has_a_closed_length c =
-    let l = c.args.sheet.now in
-    let f = c.args.formula.now in
-    let n = c.args.gates in
-    let p = c.args.p.0 in
-    let r = c.args.r.0 in
-    state_long (sheet_of (counted l)) (counted f) n p (in_question (width (sheet_of (counted l))) 1 (opposite r))
+returns-in_err-gates-clause-has_a_closed_length c = state_long (sheet_of (counted c.args.sheet.now)) _ _ _ _
 
 pub placed-outside-requires : goal.placed-outside-requires
 placed-outside-requires c = omega (arith, one_placed (width (sheet_of c.in_ok-sheet.sheet.numbers.now)) c.opposite.result.0)

@@ -9,103 +9,37 @@ use Rattle.question.proofs.Promises.{path_long, path_takes, path_lays, path_is_q
 use Rattle.question.proofs.build.path_question.Goals as goal
 
 pub returns-then-k-gt-MOST_BOUND-clause-poses_the_path_question : goal.returns-then-k-gt-MOST_BOUND-clause-poses_the_path_question
-returns-then-k-gt-MOST_BOUND-clause-poses_the_path_question c =
-    let l = c.args.sheet.now in
-    let f = c.args.formula.now in
-    let n = c.args.gates in
-    let r = c.args.r.0 in
-    let k = c.args.k in
-    let old = c.args.question.now in
-    let is = posed_not (leb k 30 && given l f n) (path_list (sheet_of (counted l)) (counted f) n r k) old (and_left _ _ (lt-leb k 30 c.if-k-gt-MOST_BOUND.true)) in
-    is
+returns-then-k-gt-MOST_BOUND-clause-poses_the_path_question c = posed_not _ (path_list (sheet_of (counted c.args.sheet.now)) (counted c.args.formula.now) c.args.gates c.args.r.0 c.args.k) _ (and_left _ _ (lt-leb c.args.k 30 c.if-k-gt-MOST_BOUND.true))
 
 pub returns-then-k-gt-MOST_BOUND-clause-takes_all_that_fits : goal.returns-then-k-gt-MOST_BOUND-clause-takes_all_that_fits
-returns-then-k-gt-MOST_BOUND-clause-takes_all_that_fits c =
-    let l = c.args.sheet.now in
-    let f = c.args.formula.now in
-    let n = c.args.gates in
-    let r = c.args.r.0 in
-    let k = c.args.k in
-    let old = c.args.question.now in
-    let is = posed_not (leb k 30 && given l f n) (path_list (sheet_of (counted l)) (counted f) n r k) old (and_left _ _ (lt-leb k 30 c.if-k-gt-MOST_BOUND.true)) in
-    path_takes l f n old None old r k is
+returns-then-k-gt-MOST_BOUND-clause-takes_all_that_fits c = path_takes c.args.sheet.now c.args.formula.now c.args.gates c.args.question.now None c.args.question.now c.args.r.0 c.args.k (posed_not _ (path_list (sheet_of (counted c.args.sheet.now)) (counted c.args.formula.now) c.args.gates c.args.r.0 c.args.k) _ (and_left _ _ (lt-leb c.args.k 30 c.if-k-gt-MOST_BOUND.true)))
 
 pub returns-then-k-gt-MOST_BOUND-clause-has_a_closed_length : goal.returns-then-k-gt-MOST_BOUND-clause-has_a_closed_length
-returns-then-k-gt-MOST_BOUND-clause-has_a_closed_length c =
-    let l = c.args.sheet.now in
-    let f = c.args.formula.now in
-    let n = c.args.gates in
-    let r = c.args.r.0 in
-    let k = c.args.k in
-    path_long (sheet_of (counted l)) (counted f) n r k
+returns-then-k-gt-MOST_BOUND-clause-has_a_closed_length c = path_long (sheet_of (counted c.args.sheet.now)) _ _ _ _
 
 pub returns-in_err-sheet-clause-poses_the_path_question : goal.returns-in_err-sheet-clause-poses_the_path_question
-returns-in_err-sheet-clause-poses_the_path_question c =
-    let l = c.args.sheet.now in
-    let f = c.args.formula.now in
-    let n = c.args.gates in
-    let r = c.args.r.0 in
-    let k = c.args.k in
-    let old = c.args.question.now in
-    let is = posed_not (leb k 30 && given l f n) (path_list (sheet_of (counted l)) (counted f) n r k) old (and_right (leb k 30) _ (and_left _ _ (sym c.in_err-sheet.ensures.is_the_test))) in
-    rw c.from_residual.ensures is
+returns-in_err-sheet-clause-poses_the_path_question c = rw c.from_residual.ensures (posed_not _ (path_list (sheet_of (counted c.args.sheet.now)) (counted c.args.formula.now) c.args.gates c.args.r.0 c.args.k) _ (and_right (leb c.args.k 30) _ (and_left _ _ (sym c.in_err-sheet.ensures.is_the_test))))
 
 pub returns-in_err-sheet-clause-takes_all_that_fits : goal.returns-in_err-sheet-clause-takes_all_that_fits
-returns-in_err-sheet-clause-takes_all_that_fits c =
-    let l = c.args.sheet.now in
-    let f = c.args.formula.now in
-    let n = c.args.gates in
-    let r = c.args.r.0 in
-    let k = c.args.k in
-    let old = c.args.question.now in
-    let is = posed_not (leb k 30 && given l f n) (path_list (sheet_of (counted l)) (counted f) n r k) old (and_right (leb k 30) _ (and_left _ _ (sym c.in_err-sheet.ensures.is_the_test))) in
-    rw c.from_residual.ensures (path_takes l f n old None old r k is)
+returns-in_err-sheet-clause-takes_all_that_fits c = rw c.from_residual.ensures (path_takes c.args.sheet.now c.args.formula.now c.args.gates c.args.question.now None c.args.question.now c.args.r.0 c.args.k (posed_not _ (path_list (sheet_of (counted c.args.sheet.now)) (counted c.args.formula.now) c.args.gates c.args.r.0 c.args.k) _ (and_right (leb c.args.k 30) _ (and_left _ _ (sym c.in_err-sheet.ensures.is_the_test)))))
 
 pub returns-in_err-sheet-clause-asks_for_a_bad_state_ahead : goal.returns-in_err-sheet-clause-asks_for_a_bad_state_ahead
 returns-in_err-sheet-clause-asks_for_a_bad_state_ahead c = rw c.from_residual.ensures (λ _ _. tt)
 
 pub returns-in_err-sheet-clause-has_a_closed_length : goal.returns-in_err-sheet-clause-has_a_closed_length
-returns-in_err-sheet-clause-has_a_closed_length c =
-    let l = c.args.sheet.now in
-    let f = c.args.formula.now in
-    let n = c.args.gates in
-    let r = c.args.r.0 in
-    let k = c.args.k in
-    path_long (sheet_of (counted l)) (counted f) n r k
+returns-in_err-sheet-clause-has_a_closed_length c = path_long (sheet_of (counted c.args.sheet.now)) _ _ _ _
 
 pub returns-in_err-gates-clause-poses_the_path_question : goal.returns-in_err-gates-clause-poses_the_path_question
-returns-in_err-gates-clause-poses_the_path_question c =
-    let l = c.args.sheet.now in
-    let f = c.args.formula.now in
-    let n = c.args.gates in
-    let r = c.args.r.0 in
-    let k = c.args.k in
-    let old = c.args.question.now in
-    let is = posed_not (leb k 30 && given l f n) (path_list (sheet_of (counted l)) (counted f) n r k) old (and_right (leb k 30) _ (and_right _ _ (sym c.in_err-gates.ensures.is_the_test))) in
-    rw c.from_residual-in_err-gates.ensures is
+returns-in_err-gates-clause-poses_the_path_question c = rw c.from_residual-in_err-gates.ensures (posed_not _ (path_list (sheet_of (counted c.args.sheet.now)) (counted c.args.formula.now) c.args.gates c.args.r.0 c.args.k) _ (and_right (leb c.args.k 30) _ (and_right _ _ (sym c.in_err-gates.ensures.is_the_test))))
 
 pub returns-in_err-gates-clause-takes_all_that_fits : goal.returns-in_err-gates-clause-takes_all_that_fits
-returns-in_err-gates-clause-takes_all_that_fits c =
-    let l = c.args.sheet.now in
-    let f = c.args.formula.now in
-    let n = c.args.gates in
-    let r = c.args.r.0 in
-    let k = c.args.k in
-    let old = c.args.question.now in
-    let is = posed_not (leb k 30 && given l f n) (path_list (sheet_of (counted l)) (counted f) n r k) old (and_right (leb k 30) _ (and_right _ _ (sym c.in_err-gates.ensures.is_the_test))) in
-    rw c.from_residual-in_err-gates.ensures (path_takes l f n old None old r k is)
+returns-in_err-gates-clause-takes_all_that_fits c = rw c.from_residual-in_err-gates.ensures (path_takes c.args.sheet.now c.args.formula.now c.args.gates c.args.question.now None c.args.question.now c.args.r.0 c.args.k (posed_not _ (path_list (sheet_of (counted c.args.sheet.now)) (counted c.args.formula.now) c.args.gates c.args.r.0 c.args.k) _ (and_right (leb c.args.k 30) _ (and_right _ _ (sym c.in_err-gates.ensures.is_the_test)))))
 
 pub returns-in_err-gates-clause-asks_for_a_bad_state_ahead : goal.returns-in_err-gates-clause-asks_for_a_bad_state_ahead
 returns-in_err-gates-clause-asks_for_a_bad_state_ahead c = rw c.from_residual-in_err-gates.ensures (λ _ _. tt)
 
 pub returns-in_err-gates-clause-has_a_closed_length : goal.returns-in_err-gates-clause-has_a_closed_length
-returns-in_err-gates-clause-has_a_closed_length c =
-    let l = c.args.sheet.now in
-    let f = c.args.formula.now in
-    let n = c.args.gates in
-    let r = c.args.r.0 in
-    let k = c.args.k in
-    path_long (sheet_of (counted l)) (counted f) n r k
+returns-in_err-gates-clause-has_a_closed_length c = path_long (sheet_of (counted c.args.sheet.now)) _ _ _ _
 
 pub pose_path-requires : goal.pose_path-requires
 pose_path-requires c = record { bound = omega arith; counts = front_few c.args.question.now c.counted_len-len.result c.counted_len-len.ensures }

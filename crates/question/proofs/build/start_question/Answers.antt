@@ -11,66 +11,28 @@ use Rattle.question.proofs.Promises.{state_long, start_takes, start_lays, start_
 use Rattle.question.proofs.build.start_question.Goals as goal
 
 pub returns-in_err-sheet-clause-poses_the_start_question : goal.returns-in_err-sheet-clause-poses_the_start_question
-returns-in_err-sheet-clause-poses_the_start_question c =
-    let l = c.args.sheet.now in
-    let f = c.args.formula.now in
-    let n = c.args.gates in
-    let r = c.args.r.0 in
-    let old = c.args.question.now in
-    let is = posed_not (given l f n) (start_list (sheet_of (counted l)) (counted f) n r) old (and_left _ _ (sym c.in_err-sheet.ensures.is_the_test)) in
-    rw c.from_residual.ensures is
+returns-in_err-sheet-clause-poses_the_start_question c = rw c.from_residual.ensures (posed_not _ (start_list (sheet_of (counted c.args.sheet.now)) (counted c.args.formula.now) c.args.gates c.args.r.0) _ (and_left _ _ (sym c.in_err-sheet.ensures.is_the_test)))
 
 pub returns-in_err-sheet-clause-takes_all_that_fits : goal.returns-in_err-sheet-clause-takes_all_that_fits
-returns-in_err-sheet-clause-takes_all_that_fits c =
-    let l = c.args.sheet.now in
-    let f = c.args.formula.now in
-    let n = c.args.gates in
-    let r = c.args.r.0 in
-    let old = c.args.question.now in
-    let is = posed_not (given l f n) (start_list (sheet_of (counted l)) (counted f) n r) old (and_left _ _ (sym c.in_err-sheet.ensures.is_the_test)) in
-    rw c.from_residual.ensures (start_takes l f n old None old r is)
+returns-in_err-sheet-clause-takes_all_that_fits c = rw c.from_residual.ensures (start_takes c.args.sheet.now c.args.formula.now c.args.gates c.args.question.now None c.args.question.now c.args.r.0 (posed_not _ (start_list (sheet_of (counted c.args.sheet.now)) (counted c.args.formula.now) c.args.gates c.args.r.0) _ (and_left _ _ (sym c.in_err-sheet.ensures.is_the_test))))
 
 pub returns-in_err-sheet-clause-asks_for_a_bad_state : goal.returns-in_err-sheet-clause-asks_for_a_bad_state
 returns-in_err-sheet-clause-asks_for_a_bad_state c = rw c.from_residual.ensures (λ _ _. tt)
 
 pub returns-in_err-sheet-clause-has_a_closed_length : goal.returns-in_err-sheet-clause-has_a_closed_length
-returns-in_err-sheet-clause-has_a_closed_length c =
-    let l = c.args.sheet.now in
-    let f = c.args.formula.now in
-    let n = c.args.gates in
-    let r = c.args.r.0 in
-    state_long (sheet_of (counted l)) (counted f) n r (in_frame (width (sheet_of (counted l))) 0 (sheet_of (counted l)).bad)
+returns-in_err-sheet-clause-has_a_closed_length c = state_long (sheet_of (counted c.args.sheet.now)) _ _ _ _
 
 pub returns-in_err-gates-clause-poses_the_start_question : goal.returns-in_err-gates-clause-poses_the_start_question
-returns-in_err-gates-clause-poses_the_start_question c =
-    let l = c.args.sheet.now in
-    let f = c.args.formula.now in
-    let n = c.args.gates in
-    let r = c.args.r.0 in
-    let old = c.args.question.now in
-    let is = posed_not (given l f n) (start_list (sheet_of (counted l)) (counted f) n r) old (and_right _ _ (sym c.in_err-gates.ensures.is_the_test)) in
-    rw c.from_residual-in_err-gates.ensures is
+returns-in_err-gates-clause-poses_the_start_question c = rw c.from_residual-in_err-gates.ensures (posed_not _ (start_list (sheet_of (counted c.args.sheet.now)) (counted c.args.formula.now) c.args.gates c.args.r.0) _ (and_right _ _ (sym c.in_err-gates.ensures.is_the_test)))
 
 pub returns-in_err-gates-clause-takes_all_that_fits : goal.returns-in_err-gates-clause-takes_all_that_fits
-returns-in_err-gates-clause-takes_all_that_fits c =
-    let l = c.args.sheet.now in
-    let f = c.args.formula.now in
-    let n = c.args.gates in
-    let r = c.args.r.0 in
-    let old = c.args.question.now in
-    let is = posed_not (given l f n) (start_list (sheet_of (counted l)) (counted f) n r) old (and_right _ _ (sym c.in_err-gates.ensures.is_the_test)) in
-    rw c.from_residual-in_err-gates.ensures (start_takes l f n old None old r is)
+returns-in_err-gates-clause-takes_all_that_fits c = rw c.from_residual-in_err-gates.ensures (start_takes c.args.sheet.now c.args.formula.now c.args.gates c.args.question.now None c.args.question.now c.args.r.0 (posed_not _ (start_list (sheet_of (counted c.args.sheet.now)) (counted c.args.formula.now) c.args.gates c.args.r.0) _ (and_right _ _ (sym c.in_err-gates.ensures.is_the_test))))
 
 pub returns-in_err-gates-clause-asks_for_a_bad_state : goal.returns-in_err-gates-clause-asks_for_a_bad_state
 returns-in_err-gates-clause-asks_for_a_bad_state c = rw c.from_residual-in_err-gates.ensures (λ _ _. tt)
 
 pub returns-in_err-gates-clause-has_a_closed_length : goal.returns-in_err-gates-clause-has_a_closed_length
-returns-in_err-gates-clause-has_a_closed_length c =
-    let l = c.args.sheet.now in
-    let f = c.args.formula.now in
-    let n = c.args.gates in
-    let r = c.args.r.0 in
-    state_long (sheet_of (counted l)) (counted f) n r (in_frame (width (sheet_of (counted l))) 0 (sheet_of (counted l)).bad)
+returns-in_err-gates-clause-has_a_closed_length c = state_long (sheet_of (counted c.args.sheet.now)) _ _ _ _
 
 pub pose_state-requires : goal.pose_state-requires
 pose_state-requires c = record { counts = front_few c.args.question.now c.counted_len-len.result c.counted_len-len.ensures }
