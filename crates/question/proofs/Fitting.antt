@@ -1,10 +1,11 @@
 -- Which questions have numbers of 32 bits alone. Assumes nothing.
-use Rattle.std.proofs.Common.{◌≡◌, ℕ, zero, suc, ◌+◌, ◌-◌, ◌*◌, ◌/◌, ◌%◌, ◌^◌, ◌<◌, ◌≤◌, Bool, true, false, ◌&&◌, ltb, List, [], ◌∷◌, map, length, get_or, take, drop, sym, refl, ap, ◌∙◌, subst, ⊎_elim, arith}
-use Rattle.std.specs.List.{AllByRecursion}
+use Rattle.std.proofs.Common.{◌≡◌, ℕ, ◌+◌, ◌-◌, ◌*◌, ◌/◌, ◌%◌, ◌^◌, ◌<◌, ◌≤◌, Bool, true, false, ◌&&◌, ltb, List, [], ◌∷◌, length, get_or, take, sym, refl, ap, ◌∙◌, subst, ⊎_elim, arith}
+use Rattle.std.specs.List.{list_all, AllByRecursion}
 use Rattle.std.proofs.lemmas.Nat.{mul-le}
 use Rattle.std.proofs.ByRecursion.{All-append, All-weaker}
-use Rattle.std.proofs.lemmas.List.{at_drop_more, at_drop_all, get_or-map, get_or-take, length-map, length-take-le, length-append}
-use Rattle.std.proofs.lemmas.Bool.{and_left, and_parts, and_from, ltb-true, lt-ltb, cond_both, cases_eq}
+use Rattle.std.proofs.lemmas.List.{get_or-take, get_or_default, length-take-le, length-append}
+use Rattle.std.proofs.lemmas.List.Sums.{AllPass-from_list_all, list_all-from_AllPass}
+use Rattle.std.proofs.lemmas.Bool.{and_parts, and_from, ltb-true, lt-ltb, cond_both, cases_eq}
 use Rattle.sheet.specs.Sheets.{Sheet, Legal, sheet_of}
 use Rattle.formula.specs.Formulas.{width, left_of, right_of}
 use Rattle.formula.specs.Framing.{in_question}
@@ -14,18 +15,6 @@ use Rattle.question.specs.Writing.{OperandsFit}
 use Rattle.question.proofs.Literals.{opposite_half}
 use Rattle.question.proofs.Parts.{all_parts, FormulaParts, state_parts, state_whole, path_parts, path_whole}
 use Rattle.question.proofs.Variables.{Lawful, legal_lawful, Over, NodesOf, frame_over, link_over, end_over}
-
--- ---- numbers below m, each after a function h, from place i on
-module _ (h : ℕ → ℕ) (m : ℕ) (xs : List ℕ) (i : ℕ) where
-  pub fit_stops : i < length xs → ltb (h (get_or xs i 0)) m ≡ false → all_below m (map h (drop i xs)) ≡ false
-  fit_stops lt e = at_drop_more (λ (ys : List ℕ). all_below m (map h ys)) xs i 0 lt ∙ and_left _ _ e
-
-  pub fit_goes : i < length xs → ltb (h (get_or xs i 0)) m ≡ true → all_below m (map h (drop i xs)) ≡ all_below m (map h (drop (i + 1) xs))
-  fit_goes lt e =
-      at_drop_more (λ (ys : List ℕ). all_below m (map h ys)) xs i 0 lt ∙ ap (λ b. b && all_below m (map h (drop (i + 1) xs))) e
-
-  pub fit_ends : length xs ≤ i → all_below m (map h (drop i xs)) ≡ true
-  fit_ends past = at_drop_all (λ (ys : List ℕ). all_below m (map h ys)) xs i past
 
 -- ---- the test, and what it tests
 same_test : (a b : Bool) → (a ≡ true → b ≡ true) → (b ≡ true → a ≡ true) → a ≡ b
@@ -41,36 +30,24 @@ all_below_lem : (m : ℕ) (xs : List ℕ) → AllByRecursion (λ x. x < m) xs �
 all_below_lem m [] h = refl
 all_below_lem m (x ∷ xs) h = and_from _ _ (lt-ltb x m h.0) (all_below_lem m xs h.1)
 
-below_at : (m : ℕ) (xs : List ℕ) (i : ℕ) → i < length xs → all_below m xs ≡ true → get_or xs i 0 < m
-below_at m [] i lt h = absurd (omega arith)
-below_at m (x ∷ xs) zero lt h = ltb-true x m (and_parts _ _ h).0
-below_at m (x ∷ xs) (suc i) lt h = below_at m xs i (omega arith) (and_parts (ltb x m) _ h).1
-
-at_below : (m : ℕ) (xs : List ℕ) → ((i : ℕ) → i < length xs → get_or xs i 0 < m) → all_below m xs ≡ true
-at_below m [] h = refl
-at_below m (x ∷ xs) h = and_from _ _ (lt-ltb x m (h 0 (omega arith))) (at_below m xs (λ i lt. h (suc i) (omega arith)))
-
 -- ---- the operands of n gates
 module _ (h : ℕ → ℕ) (m : ℕ) (f : List ℕ) (n : ℕ) (whole : 2 * n ≤ length f) where
-  long : length (map h (take (2 * n) f)) ≡ 2 * n
-  long = length-map (take (2 * n) f) h ∙ length-take-le (2 * n) f whole
+  abbrev fits : ℕ → Bool
+  fits x = ltb (h x) m
 
-  operand : (i : ℕ) → i < 2 * n → get_or (map h (take (2 * n) f)) i 0 ≡ h (get_or f i 0)
-  operand i lt = get_or-map h (take (2 * n) f) i 0 0 (omega (arith, length-take-le (2 * n) f whole)) ∙ ap h (get_or-take (2 * n) f i 0 lt)
+  pub operands_tell : list_all fits (take (2 * n) f) ≡ true → (g : ℕ) → g < n → (h (left_of f g) < m) × (h (right_of f g) < m)
+  operands_tell fit g lt =
+      let at : (i : ℕ) → i < 2 * n → h (get_or f i 0) < m = λ i in'.
+      ltb-true _ _ (ap fits (sym (get_or-take (2 * n) f i 0 in')) ∙ AllPass-from_list_all fits (take (2 * n) f) fit i 0 (omega (arith, length-take-le (2 * n) f whole))) in
+      (at (2 * g) (omega arith), at (2 * g + 1) (omega arith))
 
-  pub operands_tell : all_below m (map h (take (2 * n) f)) ≡ true → (g : ℕ) → g < n → (h (left_of f g) < m) × (h (right_of f g) < m)
-  operands_tell fit g lt = (
-    subst (λ (x : ℕ). x < m) (operand (2 * g) (omega arith)) (below_at m _ (2 * g) (omega (arith, long)) fit),
-    subst (λ (x : ℕ). x < m) (operand (2 * g + 1) (omega arith)) (below_at m _ (2 * g + 1) (omega (arith, long)) fit),
-  )
-
-  pub operands_fit : ((g : ℕ) → g < n → (h (left_of f g) < m) × (h (right_of f g) < m)) → all_below m (map h (take (2 * n) f)) ≡ true
+  pub operands_fit : ((g : ℕ) → g < n → (h (left_of f g) < m) × (h (right_of f g) < m)) → list_all fits (take (2 * n) f) ≡ true
   operands_fit each =
-      at_below m _ (λ i lt.
-      let in' : i < 2 * n = omega (arith, long) in
+      list_all-from_AllPass fits (take (2 * n) f) (λ i d lt.
+      let in' : i < 2 * n = omega (arith, length-take-le (2 * n) f whole) in
       let both = each (i / 2) (omega arith) in
-      subst (λ (x : ℕ). x < m) (sym (operand i in'))
-      (⊎_elim
+      ap fits (get_or-take (2 * n) f i d in' ∙ get_or_default f i d 0 (omega arith))
+      ∙ lt-ltb _ _ (⊎_elim
       (λ (even : i % 2 ≡ 0). let e : 2 * (i / 2) ≡ i = omega arith in subst (λ (j : ℕ). h (get_or f j 0) < m) e both.0)
       (λ (odd : i % 2 ≡ 0 → ⊥). let e : 2 * (i / 2) + 1 ≡ i = omega arith in subst (λ (j : ℕ). h (get_or f j 0) < m) e both.1)
       (cases_eq (i % 2) 0)))
@@ -172,7 +149,7 @@ module _ (l : List ℕ) (legal : Legal l) (f : List ℕ) (n : ℕ) (whole : 2 * 
 
   -- what the code tests, where there are m frames
   abbrev pub formula_fits : ℕ → ℕ → Bool
-  formula_fits m x = all_below (2 ^ 32) (map (in_question (width s) m) (take (2 * n) f)) && ltb (in_question (width s) m x) (2 ^ 32)
+  formula_fits m x = list_all (λ x. ltb (in_question (width s) m x) (2 ^ 32)) (take (2 * n) f) && ltb (in_question (width s) m x) (2 ^ 32)
 
   pub record Fitting (m x : ℕ) : Type 0 where
     pub operands : OperandsFit (width s) m f n
@@ -180,7 +157,7 @@ module _ (l : List ℕ) (legal : Legal l) (f : List ℕ) (n : ℕ) (whole : 2 * 
 
   pub fitting_tells : (m x : ℕ) → formula_fits m x ≡ true → Fitting m x
   fitting_tells m x h =
-      let p = and_parts (all_below (2 ^ 32) (map (in_question (width s) m) (take (2 * n) f))) _ h in
+      let p = and_parts (list_all (λ x. ltb (in_question (width s) m x) (2 ^ 32)) (take (2 * n) f)) _ h in
       record { operands = operands_tell (in_question (width s) m) (2 ^ 32) f n whole p.0; literal = ltb-true _ _ p.1 }
 
   fitting_from : (m x : ℕ) → Fitting m x → formula_fits m x ≡ true

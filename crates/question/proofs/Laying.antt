@@ -1,9 +1,8 @@
 -- What the pen leaves is the layout. Assumes nothing.
 use Rattle.std.proofs.Common.{◌≡◌, ℕ, suc, ◌+◌, ◌-◌, ◌≤◌, List, [], ◌∷◌, ◌++◌, length, take, drop, set, replicate, sym, refl, ap, ◌∙◌, arith, length-drop}
 use Rattle.std.proofs.lemmas.List.{append_assoc, set_at, take-append-drop, length-take-le, length-append, length_push, length-replicate, replicate-append-replicate}
-use Rattle.question.specs.declared.pen.Pen.{Pen}
 use Rattle.question.specs.Layout.{flat, starts, encode, written}
-use Rattle.question.specs.Writing.{pen, begun, pushes, puts, closed}
+use Rattle.question.specs.Writing.{Pen, pen, begun, pushes, puts, closed}
 
 -- the literals of a clause replace as many numbers
 pushes_at : (c zs : List ℕ) → length zs ≡ length c → (p ys : List ℕ) (a t : ℕ) → length p ≡ t → pushes (p ++ (zs ++ ys), pen a t) c ≡ (p ++ (c ++ ys), pen a (t + length c))

@@ -1,5 +1,5 @@
 -- What posing a question answers and leaves. Assumes nothing.
-use Rattle.std.proofs.Common.{◌≡◌, ℕ, ◌+◌, ◌-◌, ◌*◌, ◌^◌, ◌<◌, ◌≤◌, min, Bool, true, false, ◌&&◌, ltb, leb, List, ◌++◌, length, take, drop, Some, None, Option, sym, refl, ap, ◌∙◌, subst, zero-mul, arith, length-take}
+use Rattle.std.proofs.Common.{◌≡◌, ℕ, ◌+◌, ◌-◌, ◌*◌, ◌^◌, ◌<◌, ◌≤◌, min, Bool, true, false, ltb, leb, List, ◌++◌, length, take, drop, Some, None, Option, sym, refl, ap, ◌∙◌, zero-mul, arith, length-take}
 use borrow.Rule.Slice.PartMut.{post_of}
 use Rattle.std.proofs.lemmas.Nat.{mul-le}
 use Rattle.std.proofs.lemmas.List.{length-append}
@@ -130,27 +130,9 @@ posed_counted b q old len h cut r t is =
     (λ i. ((done i).0, (done i).1 ++ rest i)) ∙ sym (cond-true _ _ _ h)
 
 -- ---- what a builder is given
-pub given_is : (l f : List ℕ) (n len : ℕ) → true ≡ well_formed (counted l) → len ≡ min (length f) (2 ^ 28) → leb (2 * n) len ≡ given l f n
-given_is l f n len formed cut =
-    let size : len ≡ length (counted f) = omega (arith, length-take (2 ^ 28) f) in
-    ap (λ (k : ℕ). leb (2 * n) k) size ∙ ap (λ (b : Bool). b && leb (2 * n) (length (counted f))) formed
-
 pub given_tells : (l f : List ℕ) (n : ℕ) → given l f n ≡ true → Legal (counted l) × (2 * n ≤ length (counted f))
 given_tells l f n h =
     let p = and_parts (well_formed (counted l)) _ h in (well_formed_legal (counted l) p.0, leb-true _ _ p.1)
-
--- what counts of the lists, where they are such
-pub record Ready (l f : List ℕ) (n : ℕ) : Type 0 where
-  pub legal : Legal l
-  pub whole : 2 * n ≤ length f
-  pub few : length f ≤ 2 ^ 28
-
-pub given_ready : (l f l' f' : List ℕ) (n : ℕ) → true ≡ given l f n → l' ≡ counted l → f' ≡ counted f → Ready l' f' n
-given_ready l f l' f' n h is is' =
-    let p = given_tells l f n (sym h) in
-    let whole : 2 * n ≤ length (counted f) = p.1 in
-    let long : length f' ≡ length (counted f) = ap length is' in
-    record { legal = subst Legal (sym is) p.0; whole = omega arith; few = omega (arith, length-take (2 ^ 28) f) }
 
 pub front_few : (old : List ℕ) (len : ℕ) → len ≡ min (length old) (2 ^ 28) → length (take (len - 0) old) ≤ 2 ^ 28
 front_few old len cut = omega (arith, length-take (len - 0) old)
@@ -160,17 +142,17 @@ pub one_placed : (w x : ℕ) → in_question w 1 x ≡ x
 one_placed w x = cond_both (ltb x (2 * w)) x (x + 2 * ((1 - 1) * w)) (λ y. y ≡ x) (λ _. refl) (λ _. omega (arith, zero-mul w))
 
 -- ---- the questions, from what counts of the lists
-module _ (l f l' f' : List ℕ) (is : l' ≡ l) (is' : f' ≡ f) (n : ℕ) where
+module _ (l f l' f' : List ℕ) (n n' : ℕ) (is : l' ≡ l) (is' : f' ≡ f) (size : n' ≡ n) where
   pub start_list_lem : (r y : ℕ) → y ≡ in_frame (width (sheet_of l')) 0 (sheet_of l').bad →
-      encode (width (sheet_of l') + n) 0 (state_clauses (sheet_of l') f' n r y) ≡ start_list (sheet_of l) f n r
+      encode (width (sheet_of l') + n') 0 (state_clauses (sheet_of l') f' n' r y) ≡ start_list (sheet_of l) f n r
   start_list_lem r y e =
-      ap (λ (y : ℕ). encode (width (sheet_of l') + n) 0 (state_clauses (sheet_of l') f' n r y)) e ∙ (λ i. start_list (sheet_of (is i)) (is' i) n r)
+      ap (λ (y : ℕ). encode (width (sheet_of l') + n') 0 (state_clauses (sheet_of l') f' n' r y)) e ∙ (λ i. start_list (sheet_of (is i)) (is' i) (size i) r)
 
   pub inclusion_list_lem : (p r x y : ℕ) → x ≡ opposite r → y ≡ in_question (width (sheet_of l')) 1 x →
-      encode (width (sheet_of l') + n) 0 (state_clauses (sheet_of l') f' n p y) ≡ inclusion_list (sheet_of l) f n p r
+      encode (width (sheet_of l') + n') 0 (state_clauses (sheet_of l') f' n' p y) ≡ inclusion_list (sheet_of l) f n p r
   inclusion_list_lem p r x y o e =
-      ap (λ (y : ℕ). encode (width (sheet_of l') + n) 0 (state_clauses (sheet_of l') f' n p y)) (e ∙ ap (in_question (width (sheet_of l')) 1) o)
-      ∙ (λ i. inclusion_list (sheet_of (is i)) (is' i) n p r)
+      ap (λ (y : ℕ). encode (width (sheet_of l') + n') 0 (state_clauses (sheet_of l') f' n' p y)) (e ∙ ap (in_question (width (sheet_of l')) 1) o)
+      ∙ (λ i. inclusion_list (sheet_of (is i)) (is' i) (size i) p r)
 
-  pub path_list_lem : (r k : ℕ) → path_list (sheet_of l') f' n r k ≡ path_list (sheet_of l) f n r k
-  path_list_lem r k = (λ i. path_list (sheet_of (is i)) (is' i) n r k)
+  pub path_list_lem : (r k : ℕ) → path_list (sheet_of l') f' n' r k ≡ path_list (sheet_of l) f n r k
+  path_list_lem r k = (λ i. path_list (sheet_of (is i)) (is' i) (size i) r k)

@@ -2,8 +2,8 @@
 use Rattle.std.proofs.Common.{◌≡◌, ℕ, suc, ◌+◌, ◌-◌, ◌*◌, ◌<◌, ◌≤◌, List, [], ◌∷◌, ◌++◌, sym, refl, ap, ◌∙◌, suc-mul, arith}
 use Rattle.std.proofs.lemmas.Nat.{mul-le}
 use Rattle.lists.specs.Stretch.{stretch}
-use Rattle.question.specs.declared.pen.Pen.{Pen}
-use Rattle.question.specs.Writing.{pushed, pushes, put, puts}
+use Rattle.question.specs.declared.page.Page.{Page}
+use Rattle.question.specs.Writing.{Pen, Moved, pushed, pushes, put, puts}
 
 pub puts_append : (xs ys : List (List ℕ)) (p : List ℕ × Pen) → puts p (xs ++ ys) ≡ puts (puts p xs) ys
 puts_append [] ys p = refl
@@ -44,3 +44,8 @@ row_more t c h = let e : t + 1 - 1 ≡ suc (t - 1) = omega arith in rw e (suc-mu
 
 pub row_room : (t n c : ℕ) → 1 ≤ t → t ≤ n → (t - 1) * c + c ≤ n * c
 row_room t n c h k = omega (arith, suc-mul (t - 1) c, mul-le (suc (t - 1)) c n c (omega arith) (omega arith))
+
+-- what is written in two steps
+pub moved_on : {x y z : Page} {n m a b c d : ℕ} → Moved x y n m → Moved y z a b → n + a ≡ c → m + b ≡ d → Moved x z c d
+moved_on p q e f =
+    record { at = omega (arith, p.at, q.at); to = omega (arith, p.to, q.to); size = q.size ∙ p.size; same_list = q.same_list ∙ p.same_list }

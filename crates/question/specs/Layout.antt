@@ -1,5 +1,6 @@
 -- The list of a question, and the questions that fit. Assumes nothing.
-use Rattle.std.specs.Prelude.{ℕ, ◌+◌, ◌-◌, ◌*◌, ◌^◌, Bool, true, cond, ◌&&◌, List, [], ◌∷◌, ◌++◌, length, replicate, Some, None, Option, nat_le, nat_lt}
+use Rattle.std.specs.Prelude.{ℕ, ◌+◌, ◌-◌, ◌*◌, ◌^◌, Bool, cond, ◌&&◌, List, [], ◌∷◌, ◌++◌, length, replicate, Some, None, Option, nat_le, nat_lt}
+use Rattle.std.specs.List.{list_all}
 use Rattle.lists.specs.Counted.{counted, on_counted}
 use Rattle.sheet.specs.Sheets.{Sheet}
 use Rattle.sheet.specs.Render.{well_formed}
@@ -32,8 +33,7 @@ inclusion_list s f n p r = encode (width s + n) 0 (inclusion_clauses s f n p r)
 
 -- each number is below m
 abbrev pub all_below : ℕ → List ℕ → Bool
-all_below m [] = true
-all_below m (x ∷ xs) = nat_lt x m && all_below m xs
+all_below m xs = list_all (λ x. nat_lt x m) xs
 
 -- how long a question is, and a list of n places with it in front and zeros behind
 abbrev pub written : List ℕ → ℕ → ℕ × List ℕ

@@ -1,12 +1,21 @@
--- What the pen does to a list. Assumes nothing.
+-- What is written into a list of clauses. Assumes nothing.
 use Rattle.std.specs.Prelude.{◌≡◌, ℕ, ◌+◌, ◌^◌, ◌<◌, ◌≤◌, List, [], ◌∷◌, length, replicate, slice_set}
 use Rattle.formula.specs.Formulas.{left_of, right_of}
 use Rattle.formula.specs.Framing.{in_question}
 use Rattle.formula.specs.declared.question_literal.QuestionLiteral.{QuestionLiteral}
-use Rattle.question.specs.declared.pen.Pen.{Pen}
+use Rattle.question.specs.declared.page.Page.{Page}
+
+-- where the place of the next clause goes, and where the next literal
+pub record Pen : Type 0 where
+  pub at : ℕ
+  pub to : ℕ
 
 abbrev pub pen : ℕ → ℕ → Pen
 pen a t = record { at = a; to = t }
+
+-- what a page holds, and where its pen stands
+abbrev pub held : Page → List ℕ × Pen
+held x = (x.question.now, pen x.at x.to)
 
 abbrev pub number : QuestionLiteral → ℕ
 number x = x.0
@@ -40,12 +49,15 @@ abbrev pub closed : List ℕ × Pen → ℕ × List ℕ
 closed p = (p.1.to, slice_set p.0 p.1.at p.1.to)
 
 -- there is room for n clauses of m literals in all
-abbrev pub Room : List ℕ → Pen → ℕ → ℕ → Type 0
-Room q p n m = (p.at + n ≤ p.to) × (p.to + m ≤ length q) × (p.to + m < 2 ^ 32)
+abbrev pub Room : Page → ℕ → ℕ → Type 0
+Room x n m = (x.at + n ≤ x.to) × (x.to + m ≤ length x.question.now) × (x.to + m < 2 ^ 32)
 
--- the pen has written n clauses of m literals in all
-abbrev pub Moved : Pen → Pen → ℕ → ℕ → Type 0
-Moved p r n m = (r.at ≡ p.at + n) × (r.to ≡ p.to + m)
+-- y is the page x, with n clauses of m literals in all behind what it held
+pub record Moved (x y : Page) (n m : ℕ) : Type 0 where
+  pub at : y.at ≡ x.at + n
+  pub to : y.to ≡ x.to + m
+  pub size : length y.question.now ≡ length x.question.now
+  pub same_list : y.question.ghost_name ≡ x.question.ghost_name
 
 -- each operand of the first n gates of a formula list has 32 bits in a question of m frames
 abbrev pub OperandsFit : ℕ → ℕ → List ℕ → ℕ → Type 0

@@ -12,23 +12,16 @@ ghost use Rattle.question.specs.Offsets.{NumbersStart, NumbersPath, NumbersInclu
 ghost use Rattle.question.specs.Questions.{IsQuestion, Satisfiable};
 ghost use Rattle.question.specs.Sizes.{state_clause_count, state_literal_count, first_clause_count, first_literal_count, second_clause_count, second_literal_count};
 
-use crate::gates::placed;
+use crate::gates::{GateList, placed};
 use crate::path::pose_path;
 use crate::state::pose_state;
 use crate::unroll::bad_in;
-use lists::{counted, counted_len};
+use lists::counted_len;
+use sheet::legal::LegalSheet;
 use sheet::literal::Literal;
-use sheet::write::is_legal;
 
 // The largest bound of a path question.
 const MOST_BOUND: u32 = 30;
-
-// Whether the lists are what the builders work on: a legal sheet, and a formula list that has so many gates.
-fn is_given(sheet: &[u32], formula: &[u32], gates: u32) -> bool
-    ensures { result ≡ given sheet.now formula.now gates }
-{
-    is_legal(sheet) && 2 * gates as usize <= counted_len(formula.len())
-}
 
 // Asks whether a state in `r` is bad. The question goes into `question`, with zeros behind it, and its length is returned.
 // None, with nothing written, for a sheet that is not legal, for a formula list with fewer gates, and if the question does not
@@ -49,14 +42,11 @@ pub fn start_question(
     ensures tells_the_state { Gates (sheet_of (counted sheet.now)) (counted formula.now) gates → Formula (sheet_of (counted sheet.now)) gates r.0 → IfSome result (λ m. Tells (StartTells (sheet_of (counted sheet.now)) (counted formula.now) gates r.0) (take m question.new)) }
     ensures numbers_the_clauses { IfSome result (λ m. NumbersStart (sheet_of (counted sheet.now)) (counted formula.now) gates r.0 (take m question.new)) }
 {
-    if !is_given(sheet, formula, gates) {
-        return None;
-    }
-    let sheet = counted(sheet);
-    let formula = counted(formula);
+    let sheet = LegalSheet::new(sheet)?;
+    let gates = GateList::new(formula, gates)?;
     let bad = bad_in(sheet, 0);
     let len = counted_len(question.len());
-    pose_state(sheet, formula, gates, r, bad, &mut question[0..len])
+    pose_state(sheet, gates, r, bad, &mut question[0..len])
 }
 
 // Asks whether a bad state is reached from a state in `r` in 1 to `k + 1` steps. The result and the list are as for the start
@@ -79,13 +69,13 @@ pub fn path_question(
     ensures parts_have_their_variables { Gates (sheet_of (counted sheet.now)) (counted formula.now) gates → Formula (sheet_of (counted sheet.now)) gates r.0 → IfSome result (λ m. Parted (sheet_of (counted sheet.now)) k (take m question.new)) }
     ensures numbers_the_clauses { IfSome result (λ m. NumbersPath (sheet_of (counted sheet.now)) (counted formula.now) gates r.0 k (take m question.new)) }
 {
-    if k > MOST_BOUND || !is_given(sheet, formula, gates) {
+    if k > MOST_BOUND {
         return None;
     }
-    let sheet = counted(sheet);
-    let formula = counted(formula);
+    let sheet = LegalSheet::new(sheet)?;
+    let gates = GateList::new(formula, gates)?;
     let len = counted_len(question.len());
-    pose_path(sheet, formula, gates, r, k, &mut question[0..len])
+    pose_path(sheet, gates, r, k, &mut question[0..len])
 }
 
 // Asks whether a state in `p` is outside `r`. The result and the list are as for the start question.
@@ -106,12 +96,9 @@ pub fn inclusion_question(
     ensures tells_the_state { Gates (sheet_of (counted sheet.now)) (counted formula.now) gates → Formula (sheet_of (counted sheet.now)) gates p.0 → Formula (sheet_of (counted sheet.now)) gates r.0 → IfSome result (λ m. Tells (InclusionTells (sheet_of (counted sheet.now)) (counted formula.now) gates p.0 r.0) (take m question.new)) }
     ensures numbers_the_clauses { IfSome result (λ m. NumbersInclusion (sheet_of (counted sheet.now)) (counted formula.now) gates p.0 r.0 (take m question.new)) }
 {
-    if !is_given(sheet, formula, gates) {
-        return None;
-    }
-    let sheet = counted(sheet);
-    let formula = counted(formula);
+    let sheet = LegalSheet::new(sheet)?;
+    let gates = GateList::new(formula, gates)?;
     let outside = placed(sheet, 1, r.opposite());
     let len = counted_len(question.len());
-    pose_state(sheet, formula, gates, p, outside, &mut question[0..len])
+    pose_state(sheet, gates, p, outside, &mut question[0..len])
 }

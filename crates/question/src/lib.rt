@@ -4,8 +4,8 @@
 pub mod build;
 mod gates;
 pub mod laws;
+mod page;
 mod path;
-mod pen;
 pub mod read;
 mod size;
 mod state;

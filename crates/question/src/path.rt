@@ -1,105 +1,89 @@
 // The path question: its first part has frame 0, its second part the frames after it.
 ghost use Rattle.std.specs.Prelude.{◌≡◌, ◌+◌, ◌*◌, ◌^◌, ◌<◌, ◌≤◌, length};
-ghost use Rattle.sheet.specs.Sheets.{sheet_of, Legal};
+ghost use Rattle.sheet.specs.Sheets.{sheet_of};
 ghost use Rattle.formula.specs.Formulas.{width};
 ghost use Rattle.formula.specs.Framing.{in_question};
 ghost use Rattle.question.specs.Clauses.{first_clauses, second_clauses};
 ghost use Rattle.question.specs.Layout.{path_list, posed, written};
 ghost use Rattle.question.specs.Sizes.{first_clause_count, first_literal_count, second_clause_count, second_literal_count};
-ghost use Rattle.question.specs.Writing.{puts, Room, Moved, OperandsFit};
+ghost use Rattle.question.specs.Writing.{held, puts, Room, Moved, OperandsFit};
 
-use crate::gates::{formulas_fit, placed, put_formula};
-use crate::pen::{Pen, begin, finish, put_clause};
+use crate::gates::{GateList, placed, put_formula};
+use crate::page::Page;
 use crate::size::{first_size, second_size};
-use crate::unroll::{node_count, put_bad, put_frame, put_frames, put_link, put_links};
+use crate::unroll::{put_bad, put_frame, put_frames, put_link, put_links};
+use sheet::legal::LegalSheet;
 use sheet::literal::Literal;
 
 // The first part of a path question: frame 0, its link, the formula gates and `r`.
-fn put_first(
-    question: &mut [u32],
-    pen: Pen,
-    sheet: &[u32],
-    formula: &[u32],
-    gates: u32,
-    r: Literal,
-    k: u32,
-) -> Pen
-    requires legal { Legal sheet.now }
+fn put_first(page: &mut Page<'_>, sheet: LegalSheet<'_>, gates: GateList<'_>, r: Literal, k: u32)
     requires bound { k ≤ 30 }
-    requires whole { (2 * gates ≤ length formula.now) × (length formula.now ≤ 2 ^ 28) }
-    requires bits { (OperandsFit (width (sheet_of sheet.now)) (k + 2) formula.now gates) × (in_question (width (sheet_of sheet.now)) (k + 2) r.0 < 2 ^ 32) }
-    requires room { Room question.old pen (first_clause_count (sheet_of sheet.now) gates) (first_literal_count (sheet_of sheet.now) gates) }
-    ensures page { (question.new, result) ≡ puts (question.old, pen) (first_clauses (sheet_of sheet.now) formula.now gates r.0 k) }
-    ensures moved { Moved pen result (first_clause_count (sheet_of sheet.now) gates) (first_literal_count (sheet_of sheet.now) gates) }
+    requires bits { (OperandsFit (width (sheet_of sheet.numbers.now)) (k + 2) gates.list.now gates.count) × (in_question (width (sheet_of sheet.numbers.now)) (k + 2) r.0 < 2 ^ 32) }
+    requires room { Room page.old (first_clause_count (sheet_of sheet.numbers.now) gates.count) (first_literal_count (sheet_of sheet.numbers.now) gates.count) }
+    ensures page { held page.new ≡ puts (held page.old) (first_clauses (sheet_of sheet.entry.numbers.now) gates.entry.list.now gates.entry.count r.0 k) }
+    ensures moved { Moved page.old page.new (first_clause_count (sheet_of sheet.entry.numbers.now) gates.entry.count) (first_literal_count (sheet_of sheet.entry.numbers.now) gates.entry.count) }
 {
-    let pen = put_frame(question, pen, sheet, 0);
-    let pen = put_link(question, pen, sheet, 0);
-    let pen = put_formula(question, pen, sheet, k + 2, formula, gates);
-    put_clause(question, pen, &[placed(sheet, k + 2, r)])
+    put_frame(page, sheet, 0);
+    put_link(page, sheet, 0);
+    put_formula(page, sheet, k + 2, gates);
+    page.put_clause(&[placed(sheet, k + 2, r)]);
 }
 
 // The second part: the other frames, the links between them, and `bad` in one of them.
-fn put_second(question: &mut [u32], pen: Pen, sheet: &[u32], k: u32) -> Pen
-    requires legal { Legal sheet.now }
+fn put_second(page: &mut Page<'_>, sheet: LegalSheet<'_>, k: u32)
     requires bound { k ≤ 30 }
-    requires room { Room question.old pen (second_clause_count (sheet_of sheet.now) k) (second_literal_count (sheet_of sheet.now) k) }
-    ensures page { (question.new, result) ≡ puts (question.old, pen) (second_clauses (sheet_of sheet.now) k) }
-    ensures moved { Moved pen result (second_clause_count (sheet_of sheet.now) k) (second_literal_count (sheet_of sheet.now) k) }
+    requires room { Room page.old (second_clause_count (sheet_of sheet.numbers.now) k) (second_literal_count (sheet_of sheet.numbers.now) k) }
+    ensures page { held page.new ≡ puts (held page.old) (second_clauses (sheet_of sheet.entry.numbers.now) k) }
+    ensures moved { Moved page.old page.new (second_clause_count (sheet_of sheet.entry.numbers.now) k) (second_literal_count (sheet_of sheet.entry.numbers.now) k) }
 {
-    let pen = put_frames(question, pen, sheet, k);
-    let pen = put_links(question, pen, sheet, k);
-    put_bad(question, pen, sheet, k)
+    put_frames(page, sheet, k);
+    put_links(page, sheet, k);
+    put_bad(page, sheet, k);
 }
 
 // Writes a path question, in a list that has room for it.
 fn write_path(
-    sheet: &[u32],
-    formula: &[u32],
-    gates: u32,
+    sheet: LegalSheet<'_>,
+    gates: GateList<'_>,
     r: Literal,
     k: u32,
     question: &mut [u32],
 ) -> usize
-    requires legal { Legal sheet.now }
     requires bound { k ≤ 30 }
-    requires whole { (2 * gates ≤ length formula.now) × (length formula.now ≤ 2 ^ 28) }
-    requires bits { (OperandsFit (width (sheet_of sheet.now)) (k + 2) formula.now gates) × (in_question (width (sheet_of sheet.now)) (k + 2) r.0 < 2 ^ 32) }
-    requires room { (4 + (first_clause_count (sheet_of sheet.now) gates + second_clause_count (sheet_of sheet.now) k) + (first_literal_count (sheet_of sheet.now) gates + second_literal_count (sheet_of sheet.now) k) ≤ length question.old) × (length question.old ≤ 2 ^ 28) }
-    ensures { (result, question.new) ≡ written (path_list (sheet_of sheet.now) formula.now gates r.0 k) (length question.old) }
+    requires bits { (OperandsFit (width (sheet_of sheet.numbers.now)) (k + 2) gates.list.now gates.count) × (in_question (width (sheet_of sheet.numbers.now)) (k + 2) r.0 < 2 ^ 32) }
+    requires room { (4 + (first_clause_count (sheet_of sheet.numbers.now) gates.count + second_clause_count (sheet_of sheet.numbers.now) k) + (first_literal_count (sheet_of sheet.numbers.now) gates.count + second_literal_count (sheet_of sheet.numbers.now) k) ≤ length question.old) × (length question.old ≤ 2 ^ 28) }
+    ensures { (result, question.new) ≡ written (path_list (sheet_of sheet.entry.numbers.now) gates.entry.list.now gates.entry.count r.0 k) (length question.old) }
 {
-    let first = first_size(sheet, gates).clauses;
+    let first = first_size(sheet, gates.count).clauses;
     let clauses = first + second_size(sheet, k).clauses;
-    let variables = (k + 2) * node_count(sheet) + gates;
-    let pen = begin(question, variables, clauses, first);
-    let pen = put_first(question, pen, sheet, formula, gates, r, k);
-    let pen = put_second(question, pen, sheet, k);
-    finish(question, pen)
+    let variables = (k + 2) * sheet.width() + gates.count;
+    let mut page = Page::begin(question, variables, clauses, first);
+    put_first(&mut page, sheet, gates, r, k);
+    put_second(&mut page, sheet, k);
+    page.finish()
 }
 
 // A path question, if it fits.
 pub(crate) fn pose_path(
-    sheet: &[u32],
-    formula: &[u32],
-    gates: u32,
+    sheet: LegalSheet<'_>,
+    gates: GateList<'_>,
     r: Literal,
     k: u32,
     question: &mut [u32],
 ) -> Option<usize>
-    requires legal { Legal sheet.now }
     requires bound { k ≤ 30 }
-    requires whole { (2 * gates ≤ length formula.now) × (length formula.now ≤ 2 ^ 28) }
     requires counts { length question.old ≤ 2 ^ 28 }
-    ensures { (result, question.new) ≡ posed (path_list (sheet_of sheet.now) formula.now gates r.0 k) question.old }
+    ensures { (result, question.new) ≡ posed (path_list (sheet_of sheet.entry.numbers.now) gates.entry.list.now gates.entry.count r.0 k) question.old }
 {
-    let first = first_size(sheet, gates);
+    let first = first_size(sheet, gates.count);
     let second = second_size(sheet, k);
     let clauses = first.clauses + second.clauses;
     let literals = first.literals + second.literals;
     if question.len() < 4 + clauses + literals {
         return None;
     }
-    if !formulas_fit(sheet, k + 2, formula, gates, r) {
+    if !gates.fit(sheet, k + 2, r) {
         return None;
     }
-    Some(write_path(sheet, formula, gates, r, k, question))
+    Some(write_path(sheet, gates, r, k, question))
 }

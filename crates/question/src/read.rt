@@ -3,13 +3,13 @@ ghost use Rattle.std.specs.Prelude.{◌≡◌, slice_index};
 ghost use Rattle.lists.specs.Counted.{counted};
 ghost use Rattle.question.specs.Questions.{variable_count, clause_count, first_count, clause_of};
 
-use lists::counted;
+use lists::{counted, front, item_or};
 
 // The number at a place of a list, and 0 past its end. Every place counts: a lent list is cut to its first 2^28 places before.
 pub fn number_at(list: &[u32], place: usize) -> u32
     ensures { result ≡ slice_index list.now place }
 {
-    if place < list.len() { list[place] } else { 0 }
+    item_or(list, place, 0)
 }
 
 pub fn variable_count(question: &[u32]) -> u32
@@ -39,6 +39,5 @@ pub fn clause(question: &[u32], k: u32) -> &[u32]
     let start = number_at(question, 3 + k as usize) as usize;
     let end = number_at(question, 4 + k as usize) as usize;
     let from = start.min(question.len());
-    let to = end.max(from).min(question.len());
-    &question[from..to]
+    front(&question[from..], end.saturating_sub(start))
 }

@@ -1,155 +1,128 @@
 // The clauses of a sheet: its gates in each frame, the links between frames, and `bad` in one of them.
 // A frame is a copy of the sheet's nodes for one state of a path.
-ghost use Rattle.std.specs.Prelude.{◌≡◌, ◌+◌, ◌*◌, ◌/◌, ◌<◌, ◌≤◌, length, slice_index};
+ghost use Rattle.std.specs.Prelude.{◌≡◌, ◌+◌, ◌*◌, ◌/◌, ◌<◌, ◌≤◌};
 ghost use Rattle.lists.specs.Stretch.{stretch};
-ghost use Rattle.sheet.specs.Sheets.{sheet_of, latch_count, gate_count, Legal};
+ghost use Rattle.sheet.specs.Sheets.{sheet_of, latch_count, gate_count, node_count};
 ghost use Rattle.formula.specs.Formulas.{width};
 ghost use Rattle.formula.specs.Framing.{in_frame};
 ghost use Rattle.question.specs.Clauses.{gate_clauses, frame_clauses, latch_clauses, link_clauses, bad_clauses};
-ghost use Rattle.question.specs.Writing.{puts, Room, Moved};
+ghost use Rattle.question.specs.Writing.{held, puts, Room, Moved};
 
-use crate::pen::{Pen, open_clause, push_literal, put_and, put_clause};
+use crate::page::Page;
 use formula::frame::in_frame;
 use formula::question_literal::QuestionLiteral;
+use sheet::legal::LegalSheet;
 use sheet::literal::Literal;
 
-// How many nodes a frame has.
-pub(crate) fn node_count(sheet: &[u32]) -> u32
-    requires { Legal sheet.now }
-    ensures { result ≡ width (sheet_of sheet.now) }
-{
-    1 + sheet[0] + sheet[1] + sheet[2]
-}
-
-fn literal_at(sheet: &[u32], place: usize) -> Literal
-    requires { place < length sheet.now }
-    ensures { result.0 ≡ slice_index sheet.now place }
-{
-    Literal::from_number(sheet[place])
-}
-
 // A literal of a sheet in one of at most 32 frames, where it always has 32 bits.
-fn framed(sheet: &[u32], t: u32, literal: Literal) -> QuestionLiteral
-    requires legal { Legal sheet.now }
+fn framed(sheet: LegalSheet<'_>, t: u32, literal: Literal) -> QuestionLiteral
     requires frame { t ≤ 31 }
-    requires node { literal.0 / 2 < width (sheet_of sheet.now) }
-    ensures { result.0 ≡ in_frame (width (sheet_of sheet.now)) t literal.0 }
+    requires node { literal.0 / 2 < node_count sheet.numbers.now }
+    ensures { result.0 ≡ in_frame (width (sheet_of sheet.entry.numbers.now)) t literal.0 }
 {
-    in_frame(literal, t, node_count(sheet)).unwrap()
+    in_frame(literal, t, sheet.width()).unwrap()
 }
 
 // The bad literal in a frame.
-pub(crate) fn bad_in(sheet: &[u32], t: u32) -> QuestionLiteral
-    requires legal { Legal sheet.now }
+pub(crate) fn bad_in(sheet: LegalSheet<'_>, t: u32) -> QuestionLiteral
     requires frame { t ≤ 31 }
-    ensures { result.0 ≡ in_frame (width (sheet_of sheet.now)) t (sheet_of sheet.now).bad }
+    ensures { result.0 ≡ in_frame (width (sheet_of sheet.entry.numbers.now)) t (sheet_of sheet.entry.numbers.now).bad }
 {
-    framed(sheet, t, literal_at(sheet, 3))
+    framed(sheet, t, sheet.bad())
 }
 
 // The three clauses of gate `g` in frame `t`.
-fn put_gate(question: &mut [u32], pen: Pen, sheet: &[u32], t: u32, g: u32) -> Pen
-    requires legal { Legal sheet.now }
-    requires place { (t ≤ 31) × (g < gate_count sheet.now) }
-    requires room { Room question.old pen 3 7 }
-    ensures page { (question.new, result) ≡ puts (question.old, pen) (gate_clauses (sheet_of sheet.now) t g) }
-    ensures moved { Moved pen result 3 7 }
+fn put_gate(page: &mut Page<'_>, sheet: LegalSheet<'_>, t: u32, g: u32)
+    requires place { (t ≤ 31) × (g < gate_count sheet.numbers.now) }
+    requires room { Room page.old 3 7 }
+    ensures page { held page.new ≡ puts (held page.old) (gate_clauses (sheet_of sheet.entry.numbers.now) t g) }
+    ensures moved { Moved page.old page.new 3 7 }
 {
-    let place = 4 + 2 * (sheet[1] + g) as usize;
-    let left = framed(sheet, t, literal_at(sheet, place));
-    let right = framed(sheet, t, literal_at(sheet, place + 1));
-    let node = 1 + sheet[0] + sheet[1] + g;
-    let gate = framed(sheet, t, Literal::from_number(2 * node));
-    put_and(question, pen, gate, left, right)
+    let gate = Literal::from_number(2 * (sheet.first_gate() + g));
+    let (left, right) = sheet.operands(g);
+    page.put_and(
+        framed(sheet, t, gate),
+        framed(sheet, t, left),
+        framed(sheet, t, right),
+    );
 }
 
 // Frame `t`: node 0 is false, and each gate is an AND.
-pub(crate) fn put_frame(question: &mut [u32], mut pen: Pen, sheet: &[u32], t: u32) -> Pen
-    requires legal { Legal sheet.now }
+pub(crate) fn put_frame(page: &mut Page<'_>, sheet: LegalSheet<'_>, t: u32)
     requires place { t ≤ 31 }
-    requires room { Room question.old pen (1 + 3 * gate_count sheet.now) (1 + 7 * gate_count sheet.now) }
-    ensures page { (question.new, result) ≡ puts (question.old, pen) (frame_clauses (sheet_of sheet.now) t) }
-    ensures moved { Moved pen result (1 + 3 * gate_count sheet.now) (1 + 7 * gate_count sheet.now) }
+    requires room { Room page.old (1 + 3 * gate_count sheet.numbers.now) (1 + 7 * gate_count sheet.numbers.now) }
+    ensures page { held page.new ≡ puts (held page.old) (frame_clauses (sheet_of sheet.entry.numbers.now) t) }
+    ensures moved { Moved page.old page.new (1 + 3 * gate_count sheet.entry.numbers.now) (1 + 7 * gate_count sheet.entry.numbers.now) }
 {
     let constant = framed(sheet, t, Literal::from_number(1));
-    pen = put_clause(question, pen, &[constant]);
-    for g in 0..sheet[2] {
-        pen = put_gate(question, pen, sheet, t, g);
+    page.put_clause(&[constant]);
+    for g in 0..sheet.gates() {
+        put_gate(page, sheet, t, g);
     }
-    pen
 }
 
 // The two clauses of latch `i` between the frames `t` and `t + 1`.
-fn put_latch(question: &mut [u32], pen: Pen, sheet: &[u32], t: u32, i: u32) -> Pen
-    requires legal { Legal sheet.now }
-    requires place { (t ≤ 30) × (i < latch_count sheet.now) }
-    requires room { Room question.old pen 2 4 }
-    ensures page { (question.new, result) ≡ puts (question.old, pen) (latch_clauses (sheet_of sheet.now) t i) }
-    ensures moved { Moved pen result 2 4 }
+fn put_latch(page: &mut Page<'_>, sheet: LegalSheet<'_>, t: u32, i: u32)
+    requires place { (t ≤ 30) × (i < latch_count sheet.numbers.now) }
+    requires room { Room page.old 2 4 }
+    ensures page { held page.new ≡ puts (held page.old) (latch_clauses (sheet_of sheet.entry.numbers.now) t i) }
+    ensures moved { Moved page.old page.new 2 4 }
 {
-    let next = literal_at(sheet, 4 + 2 * i as usize);
-    let latch = Literal::from_number(2 * (1 + sheet[0] + i));
+    let next = sheet.next(i);
+    let latch = Literal::from_number(2 * (sheet.first_latch() + i));
     let is_next = framed(sheet, t, next);
     let not_next = framed(sheet, t, next.opposite());
     let is_set = framed(sheet, t + 1, latch);
     let not_set = framed(sheet, t + 1, latch.opposite());
-    let pen = put_clause(question, pen, &[is_next, not_set]);
-    put_clause(question, pen, &[not_next, is_set])
+    page.put_clause(&[is_next, not_set]);
+    page.put_clause(&[not_next, is_set]);
 }
 
 // Link `t`: each latch has in frame `t + 1` the value of its `next` in frame `t`.
-pub(crate) fn put_link(question: &mut [u32], mut pen: Pen, sheet: &[u32], t: u32) -> Pen
-    requires legal { Legal sheet.now }
+pub(crate) fn put_link(page: &mut Page<'_>, sheet: LegalSheet<'_>, t: u32)
     requires place { t ≤ 30 }
-    requires room { Room question.old pen (2 * latch_count sheet.now) (4 * latch_count sheet.now) }
-    ensures page { (question.new, result) ≡ puts (question.old, pen) (link_clauses (sheet_of sheet.now) t) }
-    ensures moved { Moved pen result (2 * latch_count sheet.now) (4 * latch_count sheet.now) }
+    requires room { Room page.old (2 * latch_count sheet.numbers.now) (4 * latch_count sheet.numbers.now) }
+    ensures page { held page.new ≡ puts (held page.old) (link_clauses (sheet_of sheet.entry.numbers.now) t) }
+    ensures moved { Moved page.old page.new (2 * latch_count sheet.entry.numbers.now) (4 * latch_count sheet.entry.numbers.now) }
 {
-    for i in 0..sheet[1] {
-        pen = put_latch(question, pen, sheet, t, i);
+    for i in 0..sheet.latches() {
+        put_latch(page, sheet, t, i);
     }
-    pen
 }
 
 // The frames 1 to `k + 1`.
-pub(crate) fn put_frames(question: &mut [u32], mut pen: Pen, sheet: &[u32], k: u32) -> Pen
-    requires legal { Legal sheet.now }
+pub(crate) fn put_frames(page: &mut Page<'_>, sheet: LegalSheet<'_>, k: u32)
     requires bound { k ≤ 30 }
-    requires room { Room question.old pen ((k + 1) * (1 + 3 * gate_count sheet.now)) ((k + 1) * (1 + 7 * gate_count sheet.now)) }
-    ensures page { (question.new, result) ≡ puts (question.old, pen) (stretch (frame_clauses (sheet_of sheet.now)) 1 (k + 1)) }
-    ensures moved { Moved pen result ((k + 1) * (1 + 3 * gate_count sheet.now)) ((k + 1) * (1 + 7 * gate_count sheet.now)) }
+    requires room { Room page.old ((k + 1) * (1 + 3 * gate_count sheet.numbers.now)) ((k + 1) * (1 + 7 * gate_count sheet.numbers.now)) }
+    ensures page { held page.new ≡ puts (held page.old) (stretch (frame_clauses (sheet_of sheet.entry.numbers.now)) 1 (k + 1)) }
+    ensures moved { Moved page.old page.new ((k + 1) * (1 + 3 * gate_count sheet.entry.numbers.now)) ((k + 1) * (1 + 7 * gate_count sheet.entry.numbers.now)) }
 {
     for t in 1..k + 2 {
-        pen = put_frame(question, pen, sheet, t);
+        put_frame(page, sheet, t);
     }
-    pen
 }
 
 // The links 1 to `k`.
-pub(crate) fn put_links(question: &mut [u32], mut pen: Pen, sheet: &[u32], k: u32) -> Pen
-    requires legal { Legal sheet.now }
+pub(crate) fn put_links(page: &mut Page<'_>, sheet: LegalSheet<'_>, k: u32)
     requires bound { k ≤ 30 }
-    requires room { Room question.old pen (k * (2 * latch_count sheet.now)) (k * (4 * latch_count sheet.now)) }
-    ensures page { (question.new, result) ≡ puts (question.old, pen) (stretch (link_clauses (sheet_of sheet.now)) 1 k) }
-    ensures moved { Moved pen result (k * (2 * latch_count sheet.now)) (k * (4 * latch_count sheet.now)) }
+    requires room { Room page.old (k * (2 * latch_count sheet.numbers.now)) (k * (4 * latch_count sheet.numbers.now)) }
+    ensures page { held page.new ≡ puts (held page.old) (stretch (link_clauses (sheet_of sheet.entry.numbers.now)) 1 k) }
+    ensures moved { Moved page.old page.new (k * (2 * latch_count sheet.entry.numbers.now)) (k * (4 * latch_count sheet.entry.numbers.now)) }
 {
     for t in 1..k + 1 {
-        pen = put_link(question, pen, sheet, t);
+        put_link(page, sheet, t);
     }
-    pen
 }
 
 // The end of a path: `bad` holds in one of the frames 1 to `k + 1`.
-pub(crate) fn put_bad(question: &mut [u32], mut pen: Pen, sheet: &[u32], k: u32) -> Pen
-    requires legal { Legal sheet.now }
+pub(crate) fn put_bad(page: &mut Page<'_>, sheet: LegalSheet<'_>, k: u32)
     requires bound { k ≤ 30 }
-    requires room { Room question.old pen 1 (k + 1) }
-    ensures page { (question.new, result) ≡ puts (question.old, pen) (bad_clauses (sheet_of sheet.now) k) }
-    ensures moved { Moved pen result 1 (k + 1) }
+    requires room { Room page.old 1 (k + 1) }
+    ensures page { held page.new ≡ puts (held page.old) (bad_clauses (sheet_of sheet.entry.numbers.now) k) }
+    ensures moved { Moved page.old page.new 1 (k + 1) }
 {
-    pen = open_clause(question, pen);
+    page.open_clause();
     for t in 1..k + 2 {
-        pen = push_literal(question, pen, bad_in(sheet, t));
+        page.push_literal(bad_in(sheet, t));
     }
-    pen
 }
