@@ -1,10 +1,9 @@
 -- A run as numbers, turn by turn. Assumes nothing.
-use Rattle.std.proofs.Common.{◌≡◌, ℕ, zero, suc, ◌+◌, ◌-◌, ◌*◌, ◌/◌, ◌%◌, ◌^◌, ◌<◌, ◌≤◌, min, Bool, true, false, not, eqb, ltb, List, [], ◌∷◌, ◌++◌, map, length, get_or, take, drop, set, replicate, Some, None, Option, Result, sym, refl, ap, ◌∙◌, ⊎_elim, suc-mul, arith, length-append, length-drop, length-take}
+use Rattle.std.proofs.Common.{◌≡◌, ℕ, zero, suc, ◌+◌, ◌-◌, ◌*◌, ◌/◌, ◌%◌, ◌^◌, ◌<◌, ◌≤◌, min, Bool, true, false, not, eqb, ltb, List, [], ◌∷◌, ◌++◌, map, length, get_or, take, drop, replicate, Some, None, Option, Result, sym, refl, ap, ◌∙◌, ⊎_elim, suc-mul, arith, length-append, length-drop, length-take}
 use borrow.Rule.Slice.PartMut.{put_mid, post_of}
 use Rattle.std.specs.List.{range_with_len}
 use Rattle.std.proofs.lemmas.List.FromFn.{fill_by_all, length-map-range_with_len}
 use Rattle.std.proofs.lemmas.Nat.{mul-le}
-use Rattle.std.proofs.lemmas.List.Edits.{fill_by_more}
 use Rattle.std.proofs.lemmas.Slice.{take-put_mid}
 use Rattle.std.proofs.lemmas.List.{append_assoc, append-nil, take_all, drop_all, get_or_past}
 use Rattle.std.specs.Option.{MatchOption, unwrap_or}
@@ -88,11 +87,6 @@ pub copied : (xs part : List ℕ) (from n : ℕ) → length part ≡ n → ((k :
 copied xs part from n long each =
     let start : from + 0 ≡ from = omega arith in
     fill_by_all (λ k. get_or xs (from + k) 0) part n 0 long each ∙ shifted (λ j. get_or xs j 0) from n 0 from start
-
-pub copied_more : (xs part : List ℕ) (from i v : ℕ) → i < length part → ((k : ℕ) → k < i → get_or part k 0 ≡ get_or xs (from + k) 0) → v ≡ get_or xs (from + i) 0
-    → (k : ℕ) → k < i + 1 → get_or (set part i v) k 0 ≡ get_or xs (from + k) 0
-copied_more xs part from i v l before is k h =
-    ap (λ (v : ℕ). get_or (set part i v) k 0) is ∙ fill_by_more (λ k. get_or xs (from + k) 0) part i 0 l before k h
 
 length_numbers : (xs : List ℕ) (i n : ℕ) → length (numbers_from xs i n) ≡ n
 length_numbers xs i n = length-map-range_with_len (λ j. get_or xs j 0) i n

@@ -72,6 +72,7 @@ fn write_frame(sheet: LegalSheet<'_>, assignment: &[u32], frame: u32, part: &mut
 }
 
 // Writes the frames 0 to `steps`, with zeros behind them.
+#[tactic(auto, using(crate::proofs::Tracing::row_fits))]
 fn write_run(sheet: LegalSheet<'_>, assignment: &[u32], steps: u32, run: &mut [u32])
     requires room { run_size (sheet_of sheet.numbers.now) steps ≤ length run.old }
     requires few { length run.old ≤ 2 ^ 28 }

@@ -1,20 +1,8 @@
-use Rattle.std.proofs.Common.{◌+◌, ◌-◌, ◌*◌, length, sym, ap, ◌∙◌, arith, rules}
+use Rattle.std.proofs.Common.{◌+◌, ◌-◌, ◌*◌, length, sym, ap, ◌∙◌, arith}
 use Rattle.sheet.specs.Sheets.{sheet_of, latch_count, input_count}
 use Rattle.checker.specs.Reports.{frame_numbers}
 use Rattle.checker.proofs.Tracing.{row_fits, run_more, run_done, length_frame}
 use Rattle.checker.proofs.runs.write_run.Goals as goal
-
-pub offset_bounds-run-at : goal.offset_bounds-run-at
-offset_bounds-run-at c =
-    let l = c.args.sheet.numbers.now in
-    let fits = row_fits c.loop-frame.frame (c.args.steps + 1) (latch_count l + input_count l) c.loop-frame-test.true in
-    search rules
-
-pub slice_bounds-write_frame-end : goal.slice_bounds-write_frame-end
-slice_bounds-write_frame-end c =
-    let l = c.args.sheet.numbers.now in
-    let fits = row_fits c.loop-frame.frame (c.args.steps + 1) (latch_count l + input_count l) c.loop-frame-test.true in
-    search rules
 
 pub loop-frame-preserved : goal.loop-frame-preserved
 loop-frame-preserved c =
