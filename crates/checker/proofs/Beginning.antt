@@ -141,10 +141,3 @@ module _ (l : List ℕ) (K Q : ℕ) (f q : List ℕ) where
       ∙ sym (made_none (well_formed_legal (counted l) (sym formed)) (omega (arith, length-take (2 ^ 28) f)) (omega (arith, length-take (2 ^ 28) q))
       (write_start l f).0 (write_start l f).1 refl)
       ∙ sym (opened_if formed bound some few)
-
-pub fits : (xs : List ℕ) (m n len : ℕ) → m ≡ n → len ≡ min (length xs) (2 ^ 28) → m ≤ len → n ≤ length (counted xs)
-fits xs m n len is cut room = omega (arith, length-take (2 ^ 28) xs)
-
-pub fits_question : (l xs : List ℕ) (n m len : ℕ) → n ≡ size_of_start (counted l) → m ≡ 10 + 10 * (gate_count (counted l) + n) → len ≡ min (length xs) (2 ^ 28) → m ≤ len
-    → 10 + 10 * (gate_count (counted l) + size_of_start (counted l)) ≤ length (counted xs)
-fits_question l xs n m len size is cut room = fits xs m _ len (is ∙ ap (λ (k : ℕ). 10 + 10 * (gate_count (counted l) + k)) size) cut room

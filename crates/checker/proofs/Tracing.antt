@@ -1,22 +1,20 @@
 -- A run as numbers, turn by turn. Assumes nothing.
-use Rattle.std.proofs.Common.{◌≡◌, ℕ, zero, suc, ◌+◌, ◌-◌, ◌*◌, ◌/◌, ◌%◌, ◌^◌, ◌<◌, ◌≤◌, min, Bool, true, false, not, eqb, ltb, List, [], ◌∷◌, ◌++◌, map, length, get_or, take, drop, set, replicate, Some, None, Ok, Option, Result, sym, refl, ap, ◌∙◌, ⊎_elim, suc-mul, arith, length-append, length-drop, length-take}
+use Rattle.std.proofs.Common.{◌≡◌, ℕ, zero, suc, ◌+◌, ◌-◌, ◌*◌, ◌/◌, ◌%◌, ◌^◌, ◌<◌, ◌≤◌, min, Bool, true, false, not, eqb, ltb, List, [], ◌∷◌, ◌++◌, map, length, get_or, take, drop, replicate, Some, None, Option, Result, sym, refl, ap, ◌∙◌, ⊎_elim, suc-mul, arith, length-append, length-drop, length-take}
 use borrow.Rule.Slice.PartMut.{put_mid, post_of}
 use Rattle.std.specs.List.{range_with_len}
 use Rattle.std.proofs.lemmas.List.FromFn.{fill_by_all, length-map-range_with_len}
 use Rattle.std.proofs.lemmas.Nat.{mul-le}
-use Rattle.std.proofs.lemmas.List.Edits.{fill_by_more}
 use Rattle.std.proofs.lemmas.Slice.{take-put_mid}
 use Rattle.std.proofs.lemmas.List.{append_assoc, append-nil, take_all, drop_all, get_or_past}
 use Rattle.std.specs.Option.{MatchOption, unwrap_or}
-use Rattle.std.proofs.lemmas.Bool.{cases_lt, cond-true, cond-false, cond_both, cases_eq, eq-eqb, ne_eqb, ltb-false, le-leb}
+use Rattle.std.proofs.lemmas.Bool.{cases_lt, cond-true, cond-false, cond_both, cases_eq, eq-eqb, ne_eqb, ltb-false}
 use Rattle.lists.specs.Counted.{counted, uncounted, on_counted}
 use Rattle.lists.proofs.Taken.{take_min, drop_min}
 use Rattle.lists.specs.Stretch.{stretch}
 use Rattle.signal.specs.Circuit.{literal_of}
 use Rattle.signal.specs.Kinds.{bit_ops}
 use Rattle.signal.specs.Truth.{lit, bits_of}
-use Rattle.sheet.specs.Render.{well_formed}
-use Rattle.sheet.specs.Sheets.{Sheet, sheet_of}
+use Rattle.sheet.specs.Sheets.{Sheet}
 use Rattle.sheet.specs.declared.fault.Fault.{Fault}
 use Rattle.formula.specs.Formulas.{width}
 use Rattle.formula.specs.Framing.{in_frame, question_literal}
@@ -26,7 +24,7 @@ use Rattle.checker.specs.declared.End.TheVariants.{Run}
 use Rattle.checker.specs.declared.Ended.{Ended}
 use Rattle.checker.specs.declared.report.Report.{Report}
 use Rattle.checker.specs.Lists.{used_part}
-use Rattle.checker.specs.Reports.{first_bad, numbers_from, frame_numbers, run_numbers, run_size, run_in, run_off, reported_run, read_by, read_off}
+use Rattle.checker.specs.Reports.{first_bad, numbers_from, frame_numbers, run_off, reported_run, read_by, read_off}
 
 -- ---- `bad` in a frame
 number_of : (x : ℕ) (y : QuestionLiteral) → Some y ≡ question_literal x → y.0 ≡ x
@@ -41,28 +39,22 @@ large x =
     (λ h e. let z : ◌≡◌ {A = ℕ} 0 1 = cc in absurd (omega arith))
     (λ h e. ltb-false x (2 ^ 32) h)
 
-module _ (xs : List ℕ) (few : length xs ≤ 2 ^ 28) (w t b b' w' : ℕ) (is_b : b' ≡ b) (is-w : w' ≡ w) where
-  -- its number as it was computed
-  framed : in_frame w' t b' ≡ in_frame w t b
-  framed = λ i. in_frame (is-w i) t (is_b i)
-
-  pub bad_some : (y : QuestionLiteral) → Some y ≡ question_literal (in_frame w' t b') → (n : ℕ) → n ≡ y.0 → (r : Bool) → r ≡ literal_of bit_ops (counted xs) n
-      → r ≡ lit (bits_of xs) (in_frame w t b)
-  bad_some y e n is r told =
-      told ∙ ap (λ (ys : List ℕ). literal_of bit_ops ys n) (take_all (2 ^ 28) xs few)
-      ∙ ap (λ (x : ℕ). lit (bits_of xs) x) (is ∙ number_of (in_frame w' t b') y e ∙ framed)
+module _ (xs : List ℕ) where
+  pub bad_some : length xs ≤ 2 ^ 28 → (x : ℕ) (y : QuestionLiteral) → Some y ≡ question_literal x → literal_of bit_ops (counted xs) y.0 ≡ lit (bits_of xs) x
+  bad_some few x y e =
+      ap (λ (ys : List ℕ). literal_of bit_ops ys y.0) (take_all (2 ^ 28) xs few) ∙ ap (λ (n : ℕ). lit (bits_of xs) n) (number_of x y e)
 
   -- a variable that is not there is 0
-  lacks : (x : ℕ) → 2 ^ 32 ≤ x → bits_of xs (x / 2) ≡ false
-  lacks x h = ap (λ (n : ℕ). not (eqb n 0)) (get_or_past xs (x / 2) 0 (omega arith))
+  lacks : (x : ℕ) → length xs ≤ 2 ^ 28 → 2 ^ 32 ≤ x → bits_of xs (x / 2) ≡ false
+  lacks x few h = ap (λ (n : ℕ). not (eqb n 0)) (get_or_past xs (x / 2) 0 (omega arith))
 
-  pub bad_none : None ≡ question_literal (in_frame w' t b') → (r : Bool) → r ≡ eqb (b' % 2) 1 → r ≡ lit (bits_of xs) (in_frame w t b)
-  bad_none e r told =
+  pub bad_none : length xs ≤ 2 ^ 28 → (w t b : ℕ) → None ≡ question_literal (in_frame w t b) → eqb (b % 2) 1 ≡ lit (bits_of xs) (in_frame w t b)
+  bad_none few w t b e =
       let x : ℕ = in_frame w t b in
-      let high : 2 ^ 32 ≤ x = omega (arith, large (in_frame w' t b') e, framed) in
+      let high : 2 ^ 32 ≤ x = large x e in
       ⊎_elim
-      (λ (even : x % 2 ≡ 0). told ∙ ne_eqb (b' % 2) 1 (λ z. omega arith) ∙ sym (cond-true _ _ _ (eq-eqb (x % 2) 0 even) ∙ lacks x high))
-      (λ (odd : x % 2 ≡ 0 → ⊥). told ∙ eq-eqb (b' % 2) 1 (omega arith) ∙ sym (cond-false _ _ _ (ne_eqb (x % 2) 0 odd) ∙ ap not (lacks x high)))
+      (λ (even : x % 2 ≡ 0). ne_eqb (b % 2) 1 (λ z. omega arith) ∙ sym (cond-true _ _ _ (eq-eqb (x % 2) 0 even) ∙ lacks x few high))
+      (λ (odd : x % 2 ≡ 0 → ⊥). eq-eqb (b % 2) 1 (omega arith) ∙ sym (cond-false _ _ _ (ne_eqb (x % 2) 0 odd) ∙ ap not (lacks x few high)))
       (cases_eq (x % 2) 0)
 
 -- ---- the first frame in which it is 1
@@ -95,11 +87,6 @@ pub copied : (xs part : List ℕ) (from n : ℕ) → length part ≡ n → ((k :
 copied xs part from n long each =
     let start : from + 0 ≡ from = omega arith in
     fill_by_all (λ k. get_or xs (from + k) 0) part n 0 long each ∙ shifted (λ j. get_or xs j 0) from n 0 from start
-
-pub copied_more : (xs part : List ℕ) (from i v : ℕ) → i < length part → ((k : ℕ) → k < i → get_or part k 0 ≡ get_or xs (from + k) 0) → v ≡ get_or xs (from + i) 0
-    → (k : ℕ) → k < i + 1 → get_or (set part i v) k 0 ≡ get_or xs (from + k) 0
-copied_more xs part from i v l before is k h =
-    ap (λ (v : ℕ). get_or (set part i v) k 0) is ∙ fill_by_more (λ k. get_or xs (from + k) 0) part i 0 l before k h
 
 length_numbers : (xs : List ℕ) (i n : ℕ) → length (numbers_from xs i n) ≡ n
 length_numbers xs i n = length-map-range_with_len (λ j. get_or xs j 0) i n
@@ -146,20 +133,6 @@ run_done f old run zeros n t size end len all before is-end room is-len same fil
 -- ---- the whole call
 abbrev Written : Type 0
 Written = Result ℕ Fault × List ℕ
-
-run_over : (c xs run run' : List ℕ) (last m n : ℕ) → well_formed c ≡ true → m ≡ first_bad (sheet_of c) xs last 0 → n ≡ run_size (sheet_of c) m → n ≤ length run
-    → run' ≡ run_numbers (sheet_of c) xs m ++ replicate (length run - run_size (sheet_of c) m) 0
-    → ◌≡◌ {A = Written} (Ok m, run') (run_off c xs last run)
-run_over c xs run run' last m n formed first size room is =
-    let here : ◌≡◌ {A = Written} (Ok m, run') (run_in (sheet_of c) xs m run) =
-    ap (λ (ys : List ℕ). let r : Written = (Ok m, ys) in r) is ∙ sym (cond-true _ _ _ (le-leb (run_size (sheet_of c) m) (length run) (omega arith))) in
-    here ∙ ap (λ (k : ℕ). run_in (sheet_of c) xs k run) first ∙ sym (cond-true _ _ _ formed)
-
-pub run_told : (l c xs run run' : List ℕ) (last m n : ℕ) → c ≡ counted l → true ≡ well_formed (counted l) → m ≡ first_bad (sheet_of c) xs last 0 → n ≡ run_size (sheet_of c) m
-    → n ≤ length run → run' ≡ run_numbers (sheet_of c) xs m ++ replicate (length run - run_size (sheet_of c) m) 0
-    → ◌≡◌ {A = Written} (Ok m, run') (run_off (counted l) xs last run)
-run_told l c xs run run' last m n is formed first size room told =
-    run_over c xs run run' last m n (ap (λ (y : List ℕ). well_formed y) is ∙ sym formed) first size room told ∙ ap (λ (y : List ℕ). run_off y xs last run) is
 
 pub off_told : (g : List ℕ → Written) (run part : List ℕ) (len : ℕ) (r : Result ℕ Fault) → len ≡ min (length run) (2 ^ 28) → ◌≡◌ {A = Written} (r, part) (g (take len run))
     → ◌≡◌ {A = Written} (r, part ++ post_of 0 len run) (on_counted g run)

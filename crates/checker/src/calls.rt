@@ -16,11 +16,10 @@ use crate::{Answer, Asked, Kind, Limits, Moved, Refused, Region, Weighed};
 use answer::assignments::satisfies;
 use answer::refutations::check_refutation;
 use formula::start::{start_formula, start_size};
-use lists::{counted, counted_len};
+use lists::counted_len;
 use question::build::start_question;
-use question::read::number_at;
 use sheet::fault::{Cause, Fault, Layer};
-use sheet::write::is_legal;
+use sheet::legal::LegalSheet;
 
 // The largest step limit.
 const MOST_BOUND: u32 = 30;
@@ -37,10 +36,10 @@ fn unopened(cause: Cause) -> Fault
 }
 
 // How many numbers the start question has, where the start formula has so many gates.
-fn start_question_size(sheet: &[u32], gates: u32) -> usize
-    ensures { result ≡ 10 + 10 * (gate_count (counted sheet.now) + gates) }
+fn start_question_size(sheet: LegalSheet<'_>, gates: u32) -> usize
+    ensures { result ≡ 10 + 10 * (gate_count sheet.entry.numbers.now + gates) }
 {
-    10 + 10 * (number_at(counted(sheet), 2) as usize + gates as usize)
+    10 + 10 * (sheet.gates() as usize + gates as usize)
 }
 
 // Writes the start formula and the start question, where both fit.
@@ -95,9 +94,7 @@ impl Asked {
         ensures opens_by_the_rules { ◌≡◌ {A = Opened} (result, formula.new, question.new) (opened sheet.now step_limit turn_limit formula.old question.old) }
         ensures a_series_begins { Begins sheet.now step_limit turn_limit result formula.new question.new }
     {
-        if !is_legal(sheet) {
-            return Err(unopened(Cause::NotLegal));
-        }
+        let legal = LegalSheet::new(sheet).ok_or(unopened(Cause::NotLegal))?;
         if step_limit > MOST_BOUND {
             return Err(unopened(Cause::StepLimit));
         }
@@ -108,7 +105,7 @@ impl Asked {
         if counted_len(formula.len()) < 2 * gates as usize {
             return Err(unopened(Cause::StartFormulaTooLong));
         }
-        if counted_len(question.len()) < start_question_size(sheet, gates) {
+        if counted_len(question.len()) < start_question_size(legal, gates) {
             return Err(unopened(Cause::StartQuestionTooLong));
         }
         let limits = Limits {

@@ -8,7 +8,7 @@ ghost use Rattle.checker.specs.Lent.{held, SameLists};
 
 use crate::End;
 use interpolant::draw::clear;
-use lists::{counted, counted_len};
+use lists::{counted, counted_len, front};
 use question::read::number_at;
 
 // The lists that a check writes, as a call is lent them.
@@ -47,8 +47,7 @@ impl Lists<'_> {
 pub(crate) fn used_part(question: &[u32], size: usize) -> &[u32]
     ensures { result.now ≡ used_part size question.now }
 {
-    let question = counted(question);
-    &question[..question.len().min(size)]
+    front(counted(question), size)
 }
 
 // The part of a list that a refutation says it is: how many steps, and three numbers for each.
@@ -56,8 +55,7 @@ pub(crate) fn said_part(refutation: &[u32]) -> &[u32]
     ensures { result.now ≡ said_part refutation.now }
 {
     let refutation = counted(refutation);
-    let size = 1 + 3 * number_at(refutation, 0) as usize;
-    &refutation[..refutation.len().min(size)]
+    front(refutation, 1 + 3 * number_at(refutation, 0) as usize)
 }
 
 // How many nodes a sheet has.

@@ -1,5 +1,5 @@
 -- Lines of text, number by number and frame by frame: what is written, and then what is left, is the whole. Assumes nothing.
-use Rattle.std.proofs.Common.{◌≡◌, ℕ, suc, ◌+◌, ◌-◌, ◌<◌, ◌≤◌, List, [], ◌∷◌, ◌++◌, get_or, drop, codes, decimal, sym, ap, ◌∙◌, append_assoc, arith}
+use Rattle.std.proofs.Common.{◌≡◌, ℕ, suc, ◌+◌, ◌-◌, ◌<◌, List, ◌∷◌, ◌++◌, get_or, drop, codes, decimal, sym, ap, ◌∙◌, append_assoc, arith}
 use Rattle.std.proofs.lemmas.List.{append-nil}
 use Rattle.checker.specs.Reports.{numbers_from}
 use Rattle.driver.specs.Texts.{numbers_text, line_text, frame_text, frames_text}
@@ -12,15 +12,6 @@ number_more xs old new whole i n v h is wrote before =
     let step : suc (n - (i + 1)) ≡ n - i = omega arith in
     ap (λ (ys : List ℕ). ys ++ rest) wrote ∙ append_assoc old (32 ∷ decimal v) rest ∙ ap (λ (u : ℕ). old ++ (32 ∷ (decimal u ++ rest))) is
     ∙ ap (λ (k : ℕ). old ++ numbers_text (numbers_from xs i k)) step ∙ before
-
--- the end of a line
-pub line_end : (xs word start worded old new : List ℕ) (i n : ℕ) → n ≤ i → worded ≡ start ++ word
-    → old ++ numbers_text (numbers_from xs i (n - i)) ≡ worded ++ numbers_text (numbers_from xs 0 n) → new ≡ old ++ (10 ∷ [])
-    → new ≡ start ++ line_text word (numbers_from xs 0 n)
-line_end xs word start worded old new i n h began before wrote =
-    let all : 0 ≡ n - i = omega arith in
-    wrote ∙ ap (λ (k : ℕ). old ++ numbers_text (numbers_from xs i k)) all ∙ before ∙ ap (λ (ys : List ℕ). ys ++ numbers_text (numbers_from xs 0 n)) began
-    ∙ append_assoc start word (numbers_text (numbers_from xs 0 n))
 
 -- ---- n latches and k inputs of a frame at the beginning of `rest`
 module _ (n k : ℕ) (old mid new rest behind rest' : List ℕ) (states : mid ≡ old ++ line_text (codes "s") (numbers_from rest 0 n))

@@ -1,5 +1,5 @@
 // Drives a check: while a question stands the producer is asked, and its answer is shown, or weighed and taken.
-ghost use Rattle.std.specs.Prelude.{◌≡◌, ℕ, take};
+ghost use Rattle.std.specs.Prelude.{◌≡◌, ℕ};
 ghost use Rattle.checker.specs.Lists.{lists};
 ghost use Rattle.checker.specs.Promises.{ShownFewer};
 ghost use Rattle.checker.specs.Series.{at_asked, Series};
@@ -8,7 +8,7 @@ ghost use Rattle.driver.specs.declared.drive.Stopped.TheVariants.{Unopened, Refu
 ghost use Rattle.driver.specs.Guarantee.{DriveIsOne, RunIsOne, Guarantee};
 
 use checker::{Asked, Ended, Moved, Refused};
-use lists::counted;
+use lists::{counted, front};
 use producer::interface::{Producer, Reply};
 use question::read::variable_count;
 use sheet::fault::{Cause, Fault, Layer};
@@ -34,13 +34,6 @@ impl From<Refused> for Stopped {
     fn from(refused: Refused) -> Stopped {
         Stopped::Refused(refused)
     }
-}
-
-// The first places of a list, as far as there are any.
-fn front(list: &[u32], size: u32) -> &[u32]
-    ensures { result.now ≡ take size list.now }
-{
-    &list[..list.len().min(size as usize)]
 }
 
 // The producer gave no answer.
@@ -73,7 +66,7 @@ fn ask<P: Producer>(
     match reply {
         Reply::Assignment => {
             let variables = variable_count(asked.fetch(question));
-            let assignment = front(counted(answer), variables);
+            let assignment = front(counted(answer), variables as usize);
             asked.show(sheet, formula, line_values, question, assignment)
         }
         Reply::Refutation => {

@@ -1,10 +1,6 @@
 use Rattle.std.proofs.Common.{length, arith}
-use Rattle.checker.proofs.Tracing.{copied, copied_more}
+use Rattle.checker.proofs.Tracing.{copied}
 use Rattle.checker.proofs.runs.copy_from.Goals as goal
-
-pub loop-i-preserved : goal.loop-i-preserved
-loop-i-preserved c =
-    copied_more c.args.list.now c.loop-i.part c.args.from c.loop-i.i c.number_at.result (omega arith) c.loop-i.invariant c.number_at.ensures
 
 pub returns : goal.returns
 returns c =

@@ -4,10 +4,7 @@ use Rattle.driver.specs.Texts.{fault_text}
 use Rattle.driver.proofs.Telling.{tells_fault}
 use Rattle.driver.proofs.text.fault_text.Goals as goal
 
-pub returns : goal.returns
-returns c =
+pub returns-clause-tells_the_fault : goal.returns-clause-tells_the_fault
+returns-clause-tells_the_fault c =
     let said : IfOk c.format.result (λ s. string_bytes s ≡ fault_text c.args.fault) = search rules in
-    record {
-      says_exactly_this = said;
-      tells_the_fault = IfOk-weaker c.format.result _ _ (λ s is. tells_fault c.args.fault (string_bytes s) (search rules) is) said;
-    }
+    IfOk-weaker c.format.result _ _ (λ s is. tells_fault c.args.fault (string_bytes s) (search rules) is) said

@@ -1,12 +1,6 @@
-use Rattle.std.proofs.Common.{ℕ, suc, ◌++◌, string_bytes, ap, arith}
-use native.Mathlib.Nat.{sub-zero}
-use Rattle.driver.specs.Texts.{frames_text}
+use Rattle.std.proofs.Common.{suc, arith}
 use Rattle.driver.proofs.Lines.{frame_more, frame_last}
 use Rattle.driver.proofs.text.write_frames.Goals as goal
-
-pub loop-init : goal.loop-init
-loop-init c =
-    ap (λ (k : ℕ). string_bytes c.args.text.now ++ frames_text k c.args.latches c.args.inputs c.args.frames.now) (sub-zero (suc c.args.last))
 
 pub loop-preserved : goal.loop-preserved
 loop-preserved c =
