@@ -3,7 +3,7 @@ ghost use Rattle.question.specs.Meaning.{StartAlwaysAsks, PathAlwaysAsks, Inclus
 ghost use Rattle.question.specs.Meaning.{StartProper, PathProper, InclusionProper, PathSides};
 ghost use Rattle.question.specs.Offsets.{StartAlwaysNumbers, PathAlwaysNumbers, InclusionAlwaysNumbers};
 
-pub fn laws_hold() -> u8
+pub fn laws_hold()
     ensures start_asks_for_a_bad_state { StartAlwaysAsks }
     ensures start_answer_tells_the_state { StartAlwaysTells }
     ensures path_asks_for_a_bad_state_ahead { PathAlwaysAsks }
@@ -17,6 +17,4 @@ pub fn laws_hold() -> u8
     ensures start_clauses_have_numbers { StartAlwaysNumbers }
     ensures path_clauses_have_numbers { PathAlwaysNumbers }
     ensures inclusion_clauses_have_numbers { InclusionAlwaysNumbers }
-{
-    0
-}
+{}
