@@ -93,13 +93,26 @@ module _ (t t' : Tally) (w w' v : List ℕ) (n : Option ℕ) where
         λ s. h.1 s ∙ sym (took.writes u) ∙ ap (filled t w) (sym next),
       )
 
-  pub turn : (f s f' s' : List ℕ) → 0 < length f → 0 < length s →
+  turned_first : (f s f' s' : List ℕ) → 0 < length f → 0 < length s →
       f' ≡ cond (leb (get_or f 0 0) (get_or s 0 0)) (drop 1 f) f → s' ≡ cond (leb (get_or s 0 0) (get_or f 0 0)) (drop 1 s) s →
       (m : ℕ) → m ≡ min (get_or f 0 0) (get_or s 0 0) → Took t t' (leb (get_or f 0 0) (get_or s 0 0)) (leb (get_or s 0 0) (get_or f 0 0)) w w' (m ∷ []) →
       Ends t' w' v f' s' n → Ends t w v f s n
-  turn [] s f' s' some other a b m is took h = absurd (omega (arith, some))
-  turn (x ∷ xs) [] f' s' some other a b m is took h = absurd (omega (arith, other))
-  turn (x ∷ xs) (y ∷ ys) f' s' some other a b m is took h = turned x y xs ys (subst (λ z. Took t t' (leb x y) (leb y x) w w' (z ∷ [])) is took) (subst (λ k. Ends t' w' v k (cond (leb y x) ys (y ∷ ys)) n) a (subst (λ k. Ends t' w' v f' k n) b h))
+  turned_first [] s f' s' some other a b m is took h = absurd (omega (arith, some))
+  turned_first (x ∷ xs) [] f' s' some other a b m is took h = absurd (omega (arith, other))
+  turned_first (x ∷ xs) (y ∷ ys) f' s' some other a b m is took h = turned x y xs ys (subst (λ z. Took t t' (leb x y) (leb y x) w w' (z ∷ [])) is took) (subst (λ k. Ends t' w' v k (cond (leb y x) ys (y ∷ ys)) n) a (subst (λ k. Ends t' w' v f' k n) b h))
+
+  -- the lower of the first literals is taken, from the first list if a, and from the second if b
+  pub turn : (a b : Bool) (f s f' s' : List ℕ) → 0 < length f → 0 < length s →
+      leb (get_or f 0 0) (get_or s 0 0) ≡ a → leb (get_or s 0 0) (get_or f 0 0) ≡ b →
+      f' ≡ cond a (drop 1 f) f → s' ≡ cond b (drop 1 s) s →
+      (m : ℕ) → m ≡ min (get_or f 0 0) (get_or s 0 0) → Took t t' a b w w' (m ∷ []) →
+      Ends t' w' v f' s' n → Ends t w v f s n
+  turn a b f s f' s' some other p q g h m is took =
+      turned_first f s f' s' some other
+      (g ∙ ap (λ k. cond k (drop 1 f) f) (sym p))
+      (h ∙ ap (λ k. cond k (drop 1 s) s) (sym q))
+      m is
+      (subst (λ k. Took t t' k (leb (get_or s 0 0) (get_or f 0 0)) w w' (m ∷ [])) (sym p) (subst (λ k. Took t t' a k w w' (m ∷ [])) (sym q) took))
 
 -- the lower of the first literals of two lists comes first in their union
 union_next : (f s : List ℕ) → 0 < length f → 0 < length s →
@@ -110,12 +123,9 @@ union_next [] s some other = absurd (omega (arith, some))
 union_next (x ∷ xs) [] some other = absurd (omega (arith, other))
 union_next (x ∷ xs) (y ∷ ys) some other = union_turn x y xs ys
 
--- the rest of a list from its second place, or the list as it was
-pub went : (f f' : List ℕ) (x y : ℕ) → x ≤ y → f' ≡ take (length f - 1) (drop 1 f) → f' ≡ cond (leb x y) (drop 1 f) f
-went f f' x y l e = e ∙ take_all (length f - 1) (drop 1 f) (simp length-drop (omega arith)) ∙ sym (cond-true _ _ _ (le-leb x y l))
-
-pub stayed : (f f' : List ℕ) (x y : ℕ) → y < x → f' ≡ f → f' ≡ cond (leb x y) (drop 1 f) f
-stayed f f' x y l e = e ∙ sym (cond-false _ _ _ (lt-leb x y l))
+-- the rest of a list from its second place
+pub went : (f f' : List ℕ) → f' ≡ take (length f - 1) (drop 1 f) → f' ≡ drop 1 f
+went f f' e = e ∙ take_all (length f - 1) (drop 1 f) (simp length-drop (omega arith))
 
 union_none : (xs : List ℕ) → union xs [] ≡ xs ++ []
 union_none [] = refl

@@ -24,12 +24,17 @@ impl Tally {
     {
         let variable = literal / 2;
         if variable == self.pivot {
-            let plain = literal % 2 == 0;
-            return Some(Tally {
-                plain: self.plain || plain && in_first,
-                negated: self.negated || !plain && in_second,
-                ..self
-            });
+            return if literal % 2 == 0 {
+                Some(Tally {
+                    plain: self.plain || in_first,
+                    ..self
+                })
+            } else {
+                Some(Tally {
+                    negated: self.negated || in_second,
+                    ..self
+                })
+            };
         }
         if variable == self.last || self.count >= free.len() {
             return None;
@@ -72,13 +77,14 @@ pub(crate) fn join(
         negated: false,
     };
     while let ([x, xs @ ..], [y, ys @ ..]) = (first, second) {
-        let (x, y) = (*x, *y);
-        tally = tally.keep(free, x.min(y), x <= y, y <= x)?;
         if x < y {
+            tally = tally.keep(free, *x, true, false)?;
             first = xs;
         } else if y < x {
+            tally = tally.keep(free, *y, false, true)?;
             second = ys;
         } else {
+            tally = tally.keep(free, *x, true, true)?;
             first = xs;
             second = ys;
         }
