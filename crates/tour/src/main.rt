@@ -194,21 +194,26 @@ fn show_drawn(
     Ok(())
 }
 
-// The start formula, and the questions that begin with it.
-fn pose(rt: &HostRuntime, list: &[u32], refutation: &[u32]) -> anyhow::Result<()> {
+// The start formula, and the questions that begin with it. With a refutation, that is judged too.
+fn pose(rt: &HostRuntime, list: &[u32], refutation: Option<&[u32]>) -> anyhow::Result<()> {
     let mut formula = [0; FORMULA_PLACES];
     let start = start_formula(list, &mut formula).context("no room for the start formula")?;
     let literal = start.literal.number();
     let gates = start.count;
     println!(rt; "  start formula: literal {literal}, {gates} gates")?;
     ask(rt, list, &formula, start)?;
-    if refutation.is_empty() {
-        return Ok(());
+    match refutation {
+        Some(refutation) => judge(rt, list, &mut formula, start, refutation),
+        None => Ok(()),
     }
-    judge(rt, list, &mut formula, start, refutation)
 }
 
-fn walk(rt: &HostRuntime, name: &str, latches: &str, refutation: &[u32]) -> anyhow::Result<()> {
+fn walk(
+    rt: &HostRuntime,
+    name: &str,
+    latches: &str,
+    refutation: Option<&[u32]>,
+) -> anyhow::Result<()> {
     let text = fs::read(rt, name)?;
     let mut list = [0; SHEET_PLACES];
     let places = accepted(rt, read(&text, &mut list))?;
@@ -233,7 +238,7 @@ fn main(rt: HostRuntime) -> anyhow::Result<()> {
         &rt,
         "hoop-driver.sheet",
         "armed, wrong",
-        &HOOP_DRIVER_REFUTED,
+        Some(&HOOP_DRIVER_REFUTED),
     )?;
     println!(rt;
         "The same pair, repaired: the driver holds a weight back while a number is pending:"
@@ -242,6 +247,6 @@ fn main(rt: HostRuntime) -> anyhow::Result<()> {
         &rt,
         "hoop-driver-repaired.sheet",
         "armed, wrong, pending",
-        &[],
+        None,
     )
 }
