@@ -607,45 +607,32 @@ const BEFORE_RECORDED: [Screened; 4] = [
     },
 ];
 
-// Whether a reply and both lists are those of a row.
-fn is_so(row: &Screened, reply: Reply, answer: &[u32], work: &[u32]) -> bool {
+// Whether a pair of a row's recording and a second producer gives the reply and both lists of the row.
+fn screens_before<P: Producer>(row: &Screened, second: &mut P) -> bool {
+    let mut answer = [9; 6];
+    let mut work = [9; 36];
+    let mut pair = Pair {
+        first: Recorded::new(row.tape),
+        second,
+    };
+    let reply = pair.answer(row.question, &mut answer, &mut work);
     let worked = row
         .work
-        .map_or(is_untouched(work), |numbers| has_only(work, numbers));
-    reply == row.reply && has_only(answer, row.answer) && worked
-}
-
-fn screens_before_splitting(row: &Screened) -> bool {
-    let mut answer = [9; 6];
-    let mut work = [9; 36];
-    let mut pair = Pair {
-        first: Recorded::new(row.tape),
-        second: Splitting,
-    };
-    let reply = pair.answer(row.question, &mut answer, &mut work);
-    is_so(row, reply, &answer, &work)
-}
-
-// Also whether the second was asked only if the first's answer is another.
-fn screens_before_recorded(row: &Screened) -> bool {
-    let mut answer = [9; 6];
-    let mut work = [9; 36];
-    let mut pair = Pair {
-        first: Recorded::new(row.tape),
-        second: Recorded::new(&SECOND),
-    };
-    let reply = pair.answer(row.question, &mut answer, &mut work);
-    let asked = pair.second.position() == 1;
-    is_so(row, reply, &answer, &work) && asked == (row.answer != [1, 0].as_slice())
+        .map_or(is_untouched(&work), |numbers| has_only(&work, numbers));
+    reply == row.reply && has_only(&answer, row.answer) && worked
 }
 
 #[test]
 fn pairs(rt: HostRuntime) {
-    for row in &BEFORE_SPLITTING {
-        assert!(rt; screens_before_splitting(row));
+    for (i, row) in BEFORE_SPLITTING.iter().enumerate() {
+        assert!(rt; screens_before(row, &mut Splitting), "row {i}");
     }
-    for row in &BEFORE_RECORDED {
-        assert!(rt; screens_before_recorded(row));
+    for (i, row) in BEFORE_RECORDED.iter().enumerate() {
+        let mut second = Recorded::new(&SECOND);
+        assert!(rt; screens_before(row, &mut second), "row {i}, recorded");
+        // The second was asked only where the first's answer is another.
+        let asked = second.position() == 1;
+        assert_eq!(rt; asked, row.answer != [1, 0].as_slice(), "row {i}, recorded");
     }
     assert!(rt; Pair::<Zeros, Splitting>::is_honest() && !Pair::<Splitting, Zeros>::is_honest());
 }
