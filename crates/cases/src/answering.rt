@@ -1,6 +1,7 @@
 // Producers: splitting, recordings and pairs, and two that are written here.
 ghost use Rattle.std.specs.Prelude.{◌≡◌, ◌+◌, min, false};
 
+use crate::common::{has_only, is_untouched};
 use answer::assignments::satisfies;
 use answer::refutations::check_refutation;
 use producer::combine::Pair;
@@ -55,27 +56,6 @@ impl<P: Producer> Producer for Counting<P> {
         self.calls = self.calls.saturating_add(1);
         self.inner.answer(question, answer, work)
     }
-}
-
-// Whether a list has these numbers, and then zeros.
-fn has_only(list: &[u32], numbers: &[u32]) -> bool {
-    for i in 0..list.len() {
-        let due = if i < numbers.len() { numbers[i] } else { 0 };
-        if list[i] != due {
-            return false;
-        }
-    }
-    numbers.len() <= list.len()
-}
-
-// Whether each number of a list is 9, as it was before.
-fn is_untouched(list: &[u32]) -> bool {
-    for x in list {
-        if *x != 9 {
-            return false;
-        }
-    }
-    true
 }
 
 // A question that is answered by splitting: with how many answer and working places, the reply, and the answer list.
@@ -271,10 +251,8 @@ fn splits_so(row: &Row) -> bool {
 
 #[test]
 fn splitting(rt: HostRuntime) {
-    let mut i = 0u32;
-    for row in &ROWS {
+    for (i, row) in ROWS.iter().enumerate() {
         assert!(rt; splits_so(row), "row {i}");
-        i = i.saturating_add(1);
     }
     assert!(rt; Splitting::is_honest());
 }
@@ -426,7 +404,7 @@ const ASKED: [Asked; 12] = [
 fn pose(row: &Asked, list: &mut [u32]) -> Option<usize> {
     let r = Literal::from_number(row.r);
     let p = Literal::from_number(row.p);
-    let count = if row.gates.is_empty() { 0 } else { 1 };
+    let count = u32::from(!row.gates.is_empty());
     match row.kind {
         Kind::Start => start_question(row.sheet, row.gates, count, r, list),
         Kind::Path => path_question(row.sheet, row.gates, count, r, 0, list),
@@ -461,10 +439,8 @@ fn answers_so(row: &Asked) -> bool {
 
 #[test]
 fn splitting_on_sheets(rt: HostRuntime) {
-    let mut i = 0u32;
-    for row in &ASKED {
+    for (i, row) in ASKED.iter().enumerate() {
         assert!(rt; answers_so(row), "row {i}");
-        i = i.saturating_add(1);
     }
 }
 
@@ -480,116 +456,52 @@ const TAPE: [u32; 31] = [
 const CUT_TAPE: [u32; 7] = [3, 1, 4294967295, 4294967295, 0, 4, 2];
 
 // What a recording replies next, how many records are used up then, and the answer list of five places, unless it is too long.
-#[derive(Clone, Copy)]
-struct Call {
-    reply: Reply,
-    position: u32,
-    answer: &'static [u32],
-}
+type Call = (Reply, u32, &'static [u32]);
 
 const CALLS: [Call; 10] = [
     // Wrong kind; place, then end, outside the recording; an assignment too short, then too long.
-    Call {
-        reply: Reply::TooLong,
-        position: 1,
-        answer: &[],
-    },
-    Call {
-        reply: Reply::TooLong,
-        position: 2,
-        answer: &[],
-    },
-    Call {
-        reply: Reply::TooLong,
-        position: 3,
-        answer: &[],
-    },
-    Call {
-        reply: Reply::TooLong,
-        position: 4,
-        answer: &[],
-    },
-    Call {
-        reply: Reply::TooLong,
-        position: 5,
-        answer: &[],
-    },
-    Call {
-        reply: Reply::Assignment,
-        position: 6,
-        answer: &[1, 0],
-    },
+    (Reply::TooLong, 1, &[]),
+    (Reply::TooLong, 2, &[]),
+    (Reply::TooLong, 3, &[]),
+    (Reply::TooLong, 4, &[]),
+    (Reply::TooLong, 5, &[]),
+    (Reply::Assignment, 6, &[1, 0]),
     // A body that is longer than the answer list.
-    Call {
-        reply: Reply::TooLong,
-        position: 7,
-        answer: &[],
-    },
-    Call {
-        reply: Reply::Refutation,
-        position: 8,
-        answer: &[1, 0, 1, 0],
-    },
+    (Reply::TooLong, 7, &[]),
+    (Reply::Refutation, 8, &[1, 0, 1, 0]),
     // Used up.
-    Call {
-        reply: Reply::TooLong,
-        position: 8,
-        answer: &[],
-    },
-    Call {
-        reply: Reply::TooLong,
-        position: 8,
-        answer: &[],
-    },
+    (Reply::TooLong, 8, &[]),
+    (Reply::TooLong, 8, &[]),
 ];
 
 const CUT_CALLS: [Call; 4] = [
-    Call {
-        reply: Reply::TooLong,
-        position: 1,
-        answer: &[],
-    },
-    Call {
-        reply: Reply::Assignment,
-        position: 2,
-        answer: &[0, 4],
-    },
-    Call {
-        reply: Reply::TooLong,
-        position: 3,
-        answer: &[],
-    },
-    Call {
-        reply: Reply::TooLong,
-        position: 3,
-        answer: &[],
-    },
+    (Reply::TooLong, 1, &[]),
+    (Reply::Assignment, 2, &[0, 4]),
+    (Reply::TooLong, 3, &[]),
+    (Reply::TooLong, 3, &[]),
 ];
 
-fn replays_so<'a>(recorded: &mut Recorded<'a>, call: &Call) -> bool {
+fn replays_so(recorded: &mut Recorded<'_>, call: &Call) -> bool {
+    let (due, position, numbers) = *call;
     let mut answer = [9; 5];
     let mut work = [9; 3];
     let reply = recorded.answer(&EITHER, &mut answer, &mut work);
-    let written = match call.reply {
+    let written = match due {
         Reply::TooLong => is_untouched(&answer),
-        _ => has_only(&answer, call.answer),
+        Reply::Assignment | Reply::Refutation => has_only(&answer, numbers),
     };
-    reply == call.reply && written && is_untouched(&work) && recorded.position() == call.position
+    reply == due && written && is_untouched(&work) && recorded.position() == position
 }
 
 #[test]
 fn recordings(rt: HostRuntime) {
     let mut recorded = Recorded::new(&TAPE);
-    for call in &CALLS {
-        assert!(rt; replays_so(&mut recorded, call), "at {}", call.position);
+    for (i, call) in CALLS.iter().enumerate() {
+        assert!(rt; replays_so(&mut recorded, call), "call {i}");
     }
     let mut recorded = Recorded::new(&CUT_TAPE);
-    for call in &CUT_CALLS {
-        assert!(rt;
-            replays_so(&mut recorded, call),
-            "at {}, cut",
-            call.position
-        );
+    for (i, call) in CUT_CALLS.iter().enumerate() {
+        assert!(rt; replays_so(&mut recorded, call), "call {i}, cut");
     }
 }
 
@@ -695,46 +607,32 @@ const BEFORE_RECORDED: [Screened; 4] = [
     },
 ];
 
-// Whether a reply and both lists are those of a row.
-fn is_so(row: &Screened, reply: Reply, answer: &[u32], work: &[u32]) -> bool {
-    let worked = match row.work {
-        Some(numbers) => has_only(work, numbers),
-        None => is_untouched(work),
-    };
-    reply == row.reply && has_only(answer, row.answer) && worked
-}
-
-fn screens_before_splitting(row: &Screened) -> bool {
+// Whether a pair of a row's recording and a second producer gives the reply and both lists of the row.
+fn screens_before<P: Producer>(row: &Screened, second: &mut P) -> bool {
     let mut answer = [9; 6];
     let mut work = [9; 36];
     let mut pair = Pair {
         first: Recorded::new(row.tape),
-        second: Splitting,
+        second,
     };
     let reply = pair.answer(row.question, &mut answer, &mut work);
-    is_so(row, reply, &answer, &work)
-}
-
-// Also whether the second was asked only if the first's answer is another.
-fn screens_before_recorded(row: &Screened) -> bool {
-    let mut answer = [9; 6];
-    let mut work = [9; 36];
-    let mut pair = Pair {
-        first: Recorded::new(row.tape),
-        second: Recorded::new(&SECOND),
-    };
-    let reply = pair.answer(row.question, &mut answer, &mut work);
-    let asked = pair.second.position() == 1;
-    is_so(row, reply, &answer, &work) && asked == (row.answer != [1, 0].as_slice())
+    let worked = row
+        .work
+        .map_or(is_untouched(&work), |numbers| has_only(&work, numbers));
+    reply == row.reply && has_only(&answer, row.answer) && worked
 }
 
 #[test]
 fn pairs(rt: HostRuntime) {
-    for row in &BEFORE_SPLITTING {
-        assert!(rt; screens_before_splitting(row));
+    for (i, row) in BEFORE_SPLITTING.iter().enumerate() {
+        assert!(rt; screens_before(row, &mut Splitting), "row {i}");
     }
-    for row in &BEFORE_RECORDED {
-        assert!(rt; screens_before_recorded(row));
+    for (i, row) in BEFORE_RECORDED.iter().enumerate() {
+        let mut second = Recorded::new(&SECOND);
+        assert!(rt; screens_before(row, &mut second), "row {i}, recorded");
+        // The second was asked only where the first's answer is another.
+        let asked = second.position() == 1;
+        assert_eq!(rt; asked, row.answer != [1, 0].as_slice(), "row {i}, recorded");
     }
     assert!(rt; Pair::<Zeros, Splitting>::is_honest() && !Pair::<Splitting, Zeros>::is_honest());
 }

@@ -1,5 +1,5 @@
 // Formulas and questions.
-use crate::reading::lay_out_largest;
+use crate::reading::largest;
 use formula::builder::Builder;
 use formula::start::{start_formula, start_size};
 use question::build::{inclusion_question, path_question, start_question};
@@ -13,13 +13,6 @@ const IDLE: [u32; 6] = [0, 1, 0, 2, 0, 0];
 // crates/tour/data/hoop-driver.sheet.
 const HOOP: [u32; 18] = [3, 2, 5, 10, 15, 0, 21, 0, 8, 5, 13, 3, 8, 4, 16, 6, 19, 11];
 
-fn number_of(literal: Option<Literal>) -> Option<u32> {
-    match literal {
-        Some(x) => Some(x.number()),
-        None => None,
-    }
-}
-
 #[test]
 fn ands_and_ors(rt: HostRuntime) {
     let mut gates = Builder { width: 4, count: 0 };
@@ -27,21 +20,30 @@ fn ands_and_ors(rt: HostRuntime) {
     let six = Literal::from_number(6);
     let four = Literal::from_number(4);
     assert_eq!(rt;
-        number_of(gates.and(&mut list, six, six.opposite())),
+        gates
+            .and(&mut list, six, six.opposite())
+            .map(Literal::number),
         Some(0)
     );
     assert_eq!(rt;
-        number_of(gates.and(&mut list, six, Literal::from_number(1))),
+        gates
+            .and(&mut list, six, Literal::from_number(1))
+            .map(Literal::number),
         Some(6)
     );
     assert_eq!(rt;
-        number_of(gates.or(&mut list, six, Literal::from_number(1))),
+        gates
+            .or(&mut list, six, Literal::from_number(1))
+            .map(Literal::number),
         Some(1)
     );
     assert_eq!(rt; list, [9; 3]);
-    assert_eq!(rt; number_of(gates.or(&mut list, four, six)), Some(9));
+    assert_eq!(rt;
+        gates.or(&mut list, four, six).map(Literal::number),
+        Some(9)
+    );
     assert_eq!(rt; list, [7, 5, 9]);
-    assert_eq!(rt; number_of(gates.and(&mut list, four, six)), None);
+    assert_eq!(rt; gates.and(&mut list, four, six).map(Literal::number), None);
     assert_eq!(rt; gates.count, 1);
 }
 
@@ -70,7 +72,8 @@ fn path_of_the_idle_latch(rt: HostRuntime) {
             4, 6, 4, 10, 11, 13, 15, 16, 17, 18, 1, 0, 7, 1, 6, 3, 5, 6, 0,
         ]
     );
-    assert!(rt; clause(&list, 1) == [0, 7].as_slice() && clause(&list, 5) == [6].as_slice());
+    assert_eq!(rt; clause(&list, 1), [0, 7].as_slice());
+    assert_eq!(rt; clause(&list, 5), [6].as_slice());
     let mut short = [9; 17];
     assert_eq!(rt; path_question(&IDLE, &[], 0, r, 0, &mut short), None);
     assert_eq!(rt; path_question(&IDLE, &[], 0, r, 31, &mut list), None);
@@ -84,17 +87,17 @@ fn questions_of_the_hoop_driver(rt: HostRuntime) {
     let p = Literal::from_number(11);
     let mut list = [0; 300];
     assert_eq!(rt; start_question(&HOOP, &formula, 1, r, &mut list), Some(70));
-    assert!(rt; list[0] == 12 && list[1] == 21 && list[2] == 0);
+    assert!(rt; list.starts_with(&[12, 21, 0]));
     assert_eq!(rt;
         path_question(&HOOP, &formula, 1, r, 2, &mut list),
         Some(264)
     );
-    assert!(rt; list[0] == 45 && list[1] == 81 && list[2] == 24);
+    assert!(rt; list.starts_with(&[45, 81, 24]));
     assert_eq!(rt;
         inclusion_question(&HOOP, &formula, 1, p, r, &mut list),
         Some(70)
     );
-    assert!(rt; list[0] == 12 && list[1] == 21 && list[2] == 0);
+    assert!(rt; list.starts_with(&[12, 21, 0]));
     let mut short = [9; 69];
     assert_eq!(rt; start_question(&HOOP, &formula, 1, r, &mut short), None);
     assert_eq!(rt;
@@ -107,8 +110,7 @@ fn questions_of_the_hoop_driver(rt: HostRuntime) {
 
 #[test]
 fn largest_path(rt: HostRuntime) {
-    let mut sheet = [0; 452];
-    lay_out_largest(&mut sheet);
+    let sheet = largest();
     let mut short = [0; 68_565];
     let mut list = [0; 68_566];
     let r = Literal::from_number(1);
@@ -117,5 +119,5 @@ fn largest_path(rt: HostRuntime) {
         path_question(&sheet, &[], 0, r, 30, &mut list),
         Some(68_566)
     );
-    assert!(rt; list[0] == 7_968 && list[1] == 20_722);
+    assert!(rt; list.starts_with(&[7_968, 20_722]));
 }

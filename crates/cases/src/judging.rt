@@ -1,10 +1,12 @@
 // Answers: assignments and refutations that are accepted and refused.
+use crate::common::{Refusal, has_only, refusal_by, refused};
 use answer::assignments::satisfies;
 use answer::refutations::check_refutation;
 use interpolant::draw::{Short, interpolate};
 use question::build::path_question;
 use sheet::fault::Layer;
 use sheet::literal::Literal;
+use std::iter;
 use std::test::Fail;
 
 // The path question at bound 0 of sheets/idle-latch.sheet, from its start state.
@@ -32,64 +34,18 @@ const TWO_REFUTED: [u32; 16] = [5, 1, 4, 1, 10, 11, 4, 12, 3, 5, 8, 6, 6, 13, 14
 // Clauses that cancel two variables at once: 0 or 1, not 0 or not 1, and 2, not 2.
 const CANCELS: [u32; 14] = [3, 4, 0, 8, 10, 12, 13, 14, 0, 2, 1, 3, 4, 5];
 
-#[derive(Clone, Copy)]
-struct Assigned {
-    numbers: &'static [u32],
-    number: u32,
-    place: u32,
-}
-
-const ASSIGNED: [Assigned; 10] = [
-    Assigned {
-        numbers: &[0, 1, 0, 0, 1, 0, 0, 0, 1, 1, 0, 1],
-        number: 31,
-        place: 0,
-    },
-    Assigned {
-        numbers: &[0, 1, 0, 0, 1, 0, 0, 0, 1, 1, 0, 1, 1, 0],
-        number: 31,
-        place: 0,
-    },
-    Assigned {
-        numbers: &[],
-        number: 31,
-        place: 0,
-    },
-    Assigned {
-        numbers: &[2, 1, 0, 0, 1, 0, 0, 0, 1, 1, 0, 1, 1],
-        number: 32,
-        place: 0,
-    },
-    Assigned {
-        numbers: &[0, 1, 0, 0, 1, 2, 0, 0, 1, 1, 0, 1, 1],
-        number: 32,
-        place: 5,
-    },
-    Assigned {
-        numbers: &[0, 1, 0, 0, 1, 0, 0, 0, 1, 1, 0, 1, 2],
-        number: 32,
-        place: 12,
-    },
-    Assigned {
-        numbers: &[1, 1, 0, 0, 1, 0, 0, 0, 1, 1, 0, 1, 1],
-        number: 33,
-        place: 0,
-    },
-    Assigned {
-        numbers: &[0, 0, 0, 0, 1, 0, 0, 0, 1, 1, 0, 1, 1],
-        number: 33,
-        place: 2,
-    },
-    Assigned {
-        numbers: &[0, 1, 0, 0, 1, 0, 1, 0, 1, 1, 0, 1, 1],
-        number: 33,
-        place: 15,
-    },
-    Assigned {
-        numbers: &[0, 1, 0, 0, 1, 0, 0, 0, 1, 1, 0, 1, 0],
-        number: 33,
-        place: 13,
-    },
+// Assignments of the press that are refused, with the number and the place of the refusal.
+const ASSIGNED: [(&[u32], u32, u32); 10] = [
+    (&[0, 1, 0, 0, 1, 0, 0, 0, 1, 1, 0, 1], 31, 0),
+    (&[0, 1, 0, 0, 1, 0, 0, 0, 1, 1, 0, 1, 1, 0], 31, 0),
+    (&[], 31, 0),
+    (&[2, 1, 0, 0, 1, 0, 0, 0, 1, 1, 0, 1, 1], 32, 0),
+    (&[0, 1, 0, 0, 1, 2, 0, 0, 1, 1, 0, 1, 1], 32, 5),
+    (&[0, 1, 0, 0, 1, 0, 0, 0, 1, 1, 0, 1, 2], 32, 12),
+    (&[1, 1, 0, 0, 1, 0, 0, 0, 1, 1, 0, 1, 1], 33, 0),
+    (&[0, 0, 0, 0, 1, 0, 0, 0, 1, 1, 0, 1, 1], 33, 2),
+    (&[0, 1, 0, 0, 1, 0, 1, 0, 1, 1, 0, 1, 1], 33, 15),
+    (&[0, 1, 0, 0, 1, 0, 0, 0, 1, 1, 0, 1, 0], 33, 13),
 ];
 
 #[derive(Clone, Copy)]
@@ -258,38 +214,15 @@ const DAMAGED: [Damaged; 22] = [
     },
 ];
 
-// The number and the place that an assignment is refused with; zeros if it is accepted.
-fn refusal_of(question: &[u32], numbers: &[u32]) -> (u32, u32) {
-    match satisfies(question, numbers) {
-        Err(fault) if fault.layer == Layer::Assignment => (fault.number(), fault.place),
-        _ => (0, 0),
-    }
-}
-
-// Whether each number of a list is `x`.
-fn all_are(list: &[u32], x: u32) -> bool {
-    for y in list {
-        if *y != x {
-            return false;
-        }
-    }
-    true
-}
-
-// The number and the place that a refutation is refused with, the working list being zero then; zeros if it is accepted, or
-// leaves something else.
-fn refusal_in(question: &[u32], refutation: &[u32], work: &mut [u32]) -> (u32, u32) {
-    let refusal = match check_refutation(question, refutation, work) {
-        Err(fault) if fault.layer == Layer::Refutation => (fault.number(), fault.place),
-        _ => (0, 0),
-    };
-    if all_are(work, 0) { refusal } else { (0, 0) }
-}
-
-fn refusal_of_steps(question: &[u32], refutation: &[u32], room: usize) -> (u32, u32) {
+// What a refutation is refused with, in a working list of `room` places, if these are zero then.
+fn refusal_of(question: &[u32], refutation: &[u32], room: usize) -> Option<Refusal> {
     let mut work = [9; 9];
-    let room = room.min(9);
-    refusal_in(question, refutation, &mut work[0..room])
+    let work = &mut work[..room.min(9)];
+    let refusal = refusal_by(
+        Layer::Refutation,
+        check_refutation(question, refutation, work),
+    )?;
+    has_only(work, &[]).then_some(refusal)
 }
 
 #[test]
@@ -314,18 +247,17 @@ fn the_questions(rt: HostRuntime) {
 #[test]
 fn assignments(rt: HostRuntime) {
     assert!(rt; satisfies(&PRESS, &PRESSED).is_ok());
-    for row in &ASSIGNED {
-        assert_eq!(rt; refusal_of(&PRESS, row.numbers), (row.number, row.place));
+    for (numbers, number, place) in &ASSIGNED {
+        let refusal = refusal_by(Layer::Assignment, satisfies(&PRESS, numbers));
+        assert_eq!(rt; refusal, refused(*number, *place), "at {numbers:?}");
     }
 }
 
 #[test]
 fn damaged_refutations(rt: HostRuntime) {
-    for row in &DAMAGED {
-        assert_eq!(rt;
-            refusal_of_steps(row.question, row.refutation, row.room),
-            (row.number, row.place)
-        );
+    for (i, row) in DAMAGED.iter().enumerate() {
+        let refusal = refusal_of(row.question, row.refutation, row.room);
+        assert_eq!(rt; refusal, refused(row.number, row.place), "row {i}");
     }
 }
 
@@ -364,9 +296,7 @@ fn drawn(rt: HostRuntime) -> Result<(), Fail> {
         &mut formula,
         0,
         &mut values,
-    )
-    .ok()
-    .ok_or("short")?;
+    )?;
     assert_eq!(rt; (drawn.literal.number(), drawn.gates), (3, 0));
     assert_eq!(rt; values, [0, 3, 2, 0, 1, 1, 3, 3, 0]);
     let mut formula = [5, 3, 0, 0, 0, 0, 0, 0];
@@ -378,9 +308,7 @@ fn drawn(rt: HostRuntime) -> Result<(), Fail> {
         &mut formula,
         1,
         &mut values,
-    )
-    .ok()
-    .ok_or("short")?;
+    )?;
     assert_eq!(rt; (drawn.literal.number(), drawn.gates), (10, 3));
     assert_eq!(rt; formula, [5, 3, 5, 2, 9, 5, 0, 0]);
     assert_eq!(rt;
@@ -398,55 +326,48 @@ fn drawn(rt: HostRuntime) -> Result<(), Fail> {
 
 // Which list is too short for the drawing of the two latches.
 fn shortage(formula: &mut [u32], values: &mut [u32]) -> Option<Short> {
-    match interpolate(&TWO_LATCHES, &TWO, &TWO_REFUTED, formula, 1, values) {
-        Ok(_) => None,
-        Err(short) => Some(short),
-    }
+    interpolate(&TWO_LATCHES, &TWO, &TWO_REFUTED, formula, 1, values).err()
 }
 
 // Variable 0, each variable implies the next, and not the last: 3,000 variables.
-fn lay_out_chain(question: &mut [u32; 9005]) {
-    question[0] = 3000;
-    question[1] = 3001;
-    question[3] = 3005;
-    question[3005] = 0;
-    for i in 1..3000u32 {
-        let from = 3004 + 2 * i;
-        question[3 + i as usize] = from;
-        question[from as usize] = 2 * i - 1;
-        question[from as usize + 1] = 2 * i;
+fn chain() -> [u32; 9005] {
+    let mut question = [0; 9005];
+    // The counts and the first clause's place, the places of the others, where the last ends, and every literal in order.
+    let numbers = [3000, 3001, 0, 3005]
+        .into_iter()
+        .chain((3006..9005).step_by(2))
+        .chain(iter::once(9005))
+        .chain(0..6000);
+    for (place, number) in question.iter_mut().zip(numbers) {
+        *place = number;
     }
-    question[3003] = 9004;
-    question[3004] = 9005;
-    question[9004] = 5999;
+    question
 }
 
 // Along the chain, a step for each variable.
-fn refute_chain(refutation: &mut [u32; 9001]) {
+fn chain_refutation() -> [u32; 9001] {
+    let mut refutation = [0; 9001];
     refutation[0] = 3000;
-    for i in 0..3000u32 {
-        let place = 3 * i as usize;
-        refutation[place + 1] = if i == 0 { 0 } else { 3000 + i };
-        refutation[place + 2] = i + 1;
-        refutation[place + 3] = i;
+    let (steps, _) = refutation[1..].as_chunks_mut();
+    for (i, step) in steps.iter_mut().enumerate() {
+        let i = i as u32;
+        let first = if i == 0 { 0 } else { 3000 + i };
+        *step = [first, i + 1, i];
     }
+    refutation
 }
 
 #[test]
-fn a_long_refutation(rt: HostRuntime) -> Result<(), Fail> {
-    let mut question = [0; 9005];
-    lay_out_chain(&mut question);
-    let mut refutation = [0; 9001];
-    refute_chain(&mut refutation);
+fn a_long_refutation(rt: HostRuntime) {
+    let question = chain();
+    let refutation = chain_refutation();
     let mut work = [9; 6000];
     assert!(rt; check_refutation(&question, &refutation, &mut work).is_ok());
     assert!(rt; work[0] == 3001 && work[3000] == 6000);
     let mut short = [9; 5999];
-    match check_refutation(&question, &refutation, &mut short) {
-        Ok(()) => Err(Fail::new("accepted")),
-        Err(fault) => {
-            assert_eq!(rt; (fault.number(), fault.place), (45, 2998));
-            Ok(())
-        },
-    }
+    let shortage = refusal_by(
+        Layer::Refutation,
+        check_refutation(&question, &refutation, &mut short),
+    );
+    assert_eq!(rt; shortage, refused(45, 2998));
 }

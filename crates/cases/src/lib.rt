@@ -6,6 +6,8 @@ mod answering;
 #[cfg(test)]
 mod asking;
 #[cfg(test)]
+mod common;
+#[cfg(test)]
 mod judging;
 #[cfg(test)]
 mod reading;

@@ -1,260 +1,65 @@
 // Sheets that are read, written and refused.
+use crate::common::{Refusal, refusal_by, refused};
 use sheet::fault::Layer;
 use sheet::read::read;
 use sheet::write::{is_legal, write};
 use std::test::Fail;
 
-// A text that is refused, with the number and the place of the refusal.
-#[derive(Clone, Copy)]
-struct Row {
-    text: &'static [u8],
-    number: u32,
-    place: u32,
-}
-
-const REFUSED: [Row; 46] = [
-    Row {
-        text: b"",
-        number: 12,
-        place: 1,
-    },
-    Row {
-        text: b"\n",
-        number: 13,
-        place: 1,
-    },
-    Row {
-        text: b"c 0 1 0",
-        number: 12,
-        place: 1,
-    },
-    Row {
-        text: b"c 0 1 0\nl 0 0\nb 2",
-        number: 12,
-        place: 3,
-    },
-    Row {
-        text: b"c 0 1 0\r\nl 0 0\nb 2\n",
-        number: 14,
-        place: 1,
-    },
-    Row {
-        text: b"c  0 1 0\nl 0 0\nb 2\n",
-        number: 14,
-        place: 1,
-    },
-    Row {
-        text: b"c 0 1 0 \nl 0 0\nb 2\n",
-        number: 14,
-        place: 1,
-    },
-    Row {
-        text: b"c 0 1\nl 0 0\nb 2\n",
-        number: 14,
-        place: 1,
-    },
-    Row {
-        text: b"c 0 1 0 0\nl 0 0\nb 2\n",
-        number: 14,
-        place: 1,
-    },
-    Row {
-        text: b"C 0 1 0\nl 0 0\nb 2\n",
-        number: 13,
-        place: 1,
-    },
-    Row {
-        text: b"c00 1 0\nl 0 0\nb 2\n",
-        number: 14,
-        place: 1,
-    },
-    Row {
-        text: b"c 25 1 0\nl 0 0\nb 2\n",
-        number: 15,
-        place: 1,
-    },
-    Row {
-        text: b"c 0 0 0\nb 0\n",
-        number: 15,
-        place: 1,
-    },
-    Row {
-        text: b"c 0 25 0\n",
-        number: 15,
-        place: 1,
-    },
-    Row {
-        text: b"c 0 1 201\n",
-        number: 15,
-        place: 1,
-    },
-    Row {
-        text: b"c 0 1 0\n",
-        number: 12,
-        place: 2,
-    },
-    Row {
-        text: b"c 0 1 0\nb 2\n",
-        number: 13,
-        place: 2,
-    },
-    Row {
-        text: b"c 0 1 0\n\nb 2\n",
-        number: 13,
-        place: 2,
-    },
-    Row {
-        text: b"c 0 1 0\nl 0\nb 2\n",
-        number: 14,
-        place: 2,
-    },
-    Row {
-        text: b"c 0 1 0\nl 00 0\nb 2\n",
-        number: 14,
-        place: 2,
-    },
-    Row {
-        text: b"c 0 1 0\nl 01 0\nb 2\n",
-        number: 14,
-        place: 2,
-    },
-    Row {
-        text: b"c 0 1 0\nl 1000 0\nb 2\n",
-        number: 14,
-        place: 2,
-    },
-    Row {
-        text: b"c 0 1 0\nl 0  0\nb 2\n",
-        number: 14,
-        place: 2,
-    },
-    Row {
-        text: b"c 0 1 0\nl 0 0 \nb 2\n",
-        number: 14,
-        place: 2,
-    },
-    Row {
-        text: b"c 0 1 0\nl -1 0\nb 2\n",
-        number: 14,
-        place: 2,
-    },
-    Row {
-        text: b"c 0 1 0\nl 4 0\nb 2\n",
-        number: 15,
-        place: 2,
-    },
-    Row {
-        text: b"c 0 1 0\nl 0 3\nb 2\n",
-        number: 15,
-        place: 2,
-    },
-    Row {
-        text: b"c 0 2 0\nl 0 0\nb 2\n",
-        number: 13,
-        place: 3,
-    },
-    Row {
-        text: b"c 1 1 1\nl 0 0\n",
-        number: 12,
-        place: 3,
-    },
-    Row {
-        text: b"c 1 1 1\nl 0 0\nl 4 2\nb 2\n",
-        number: 13,
-        place: 3,
-    },
-    Row {
-        text: b"c 1 1 1\nl 0 0\ng 4\nb 2\n",
-        number: 14,
-        place: 3,
-    },
-    Row {
-        text: b"c 1 1 1\nl 0 0\ng 4 02\nb 2\n",
-        number: 14,
-        place: 3,
-    },
-    Row {
-        text: b"c 1 1 1\nl 0 0\ng 8 2\nb 2\n",
-        number: 15,
-        place: 3,
-    },
-    Row {
-        text: b"c 1 1 1\nl 0 0\ng 4 8\nb 2\n",
-        number: 15,
-        place: 3,
-    },
-    Row {
-        text: b"c 1 1 1\nl 0 0\ng 2 4\nb 2\n",
-        number: 16,
-        place: 3,
-    },
-    Row {
-        text: b"c 1 1 1\nl 0 0\ng 6 2\nb 2\n",
-        number: 16,
-        place: 3,
-    },
-    Row {
-        text: b"c 1 1 1\nl 0 0\ng 4 5\nb 2\n",
-        number: 16,
-        place: 3,
-    },
-    Row {
-        text: b"c 1 1 2\nl 0 0\ng 4 2\ng 8 2\nb 2\n",
-        number: 16,
-        place: 4,
-    },
-    Row {
-        text: b"c 0 1 0\nl 0 0\n",
-        number: 12,
-        place: 3,
-    },
-    Row {
-        text: b"c 0 1 0\nl 0 0\nl 0 0\nb 2\n",
-        number: 13,
-        place: 3,
-    },
-    Row {
-        text: b"c 0 1 0\nl 0 0\nb\n",
-        number: 14,
-        place: 3,
-    },
-    Row {
-        text: b"c 0 1 0\nl 0 0\nb 2 2\n",
-        number: 14,
-        place: 3,
-    },
-    Row {
-        text: b"c 0 1 0\nl 0 0\nb 4\n",
-        number: 15,
-        place: 3,
-    },
-    Row {
-        text: b"c 0 1 0\nl 0 0\nb 2\nb 2\n",
-        number: 17,
-        place: 4,
-    },
-    Row {
-        text: b"c 0 1 0\nl 0 0\nb 2\n\n",
-        number: 17,
-        place: 4,
-    },
-    Row {
-        text: b"c 0 1 0\nl 0 0\nb 2\n ",
-        number: 17,
-        place: 4,
-    },
+// Texts that are refused, with the number and the place of the refusal.
+const REFUSED: [(&str, u32, u32); 46] = [
+    ("", 12, 1),
+    ("\n", 13, 1),
+    ("c 0 1 0", 12, 1),
+    ("c 0 1 0\nl 0 0\nb 2", 12, 3),
+    ("c 0 1 0\r\nl 0 0\nb 2\n", 14, 1),
+    ("c  0 1 0\nl 0 0\nb 2\n", 14, 1),
+    ("c 0 1 0 \nl 0 0\nb 2\n", 14, 1),
+    ("c 0 1\nl 0 0\nb 2\n", 14, 1),
+    ("c 0 1 0 0\nl 0 0\nb 2\n", 14, 1),
+    ("C 0 1 0\nl 0 0\nb 2\n", 13, 1),
+    ("c00 1 0\nl 0 0\nb 2\n", 14, 1),
+    ("c 25 1 0\nl 0 0\nb 2\n", 15, 1),
+    ("c 0 0 0\nb 0\n", 15, 1),
+    ("c 0 25 0\n", 15, 1),
+    ("c 0 1 201\n", 15, 1),
+    ("c 0 1 0\n", 12, 2),
+    ("c 0 1 0\nb 2\n", 13, 2),
+    ("c 0 1 0\n\nb 2\n", 13, 2),
+    ("c 0 1 0\nl 0\nb 2\n", 14, 2),
+    ("c 0 1 0\nl 00 0\nb 2\n", 14, 2),
+    ("c 0 1 0\nl 01 0\nb 2\n", 14, 2),
+    ("c 0 1 0\nl 1000 0\nb 2\n", 14, 2),
+    ("c 0 1 0\nl 0  0\nb 2\n", 14, 2),
+    ("c 0 1 0\nl 0 0 \nb 2\n", 14, 2),
+    ("c 0 1 0\nl -1 0\nb 2\n", 14, 2),
+    ("c 0 1 0\nl 4 0\nb 2\n", 15, 2),
+    ("c 0 1 0\nl 0 3\nb 2\n", 15, 2),
+    ("c 0 2 0\nl 0 0\nb 2\n", 13, 3),
+    ("c 1 1 1\nl 0 0\n", 12, 3),
+    ("c 1 1 1\nl 0 0\nl 4 2\nb 2\n", 13, 3),
+    ("c 1 1 1\nl 0 0\ng 4\nb 2\n", 14, 3),
+    ("c 1 1 1\nl 0 0\ng 4 02\nb 2\n", 14, 3),
+    ("c 1 1 1\nl 0 0\ng 8 2\nb 2\n", 15, 3),
+    ("c 1 1 1\nl 0 0\ng 4 8\nb 2\n", 15, 3),
+    ("c 1 1 1\nl 0 0\ng 2 4\nb 2\n", 16, 3),
+    ("c 1 1 1\nl 0 0\ng 6 2\nb 2\n", 16, 3),
+    ("c 1 1 1\nl 0 0\ng 4 5\nb 2\n", 16, 3),
+    ("c 1 1 2\nl 0 0\ng 4 2\ng 8 2\nb 2\n", 16, 4),
+    ("c 0 1 0\nl 0 0\n", 12, 3),
+    ("c 0 1 0\nl 0 0\nl 0 0\nb 2\n", 13, 3),
+    ("c 0 1 0\nl 0 0\nb\n", 14, 3),
+    ("c 0 1 0\nl 0 0\nb 2 2\n", 14, 3),
+    ("c 0 1 0\nl 0 0\nb 4\n", 15, 3),
+    ("c 0 1 0\nl 0 0\nb 2\nb 2\n", 17, 4),
+    ("c 0 1 0\nl 0 0\nb 2\n\n", 17, 4),
+    ("c 0 1 0\nl 0 0\nb 2\n ", 17, 4),
 ];
 
-// The number and the place that reading refuses the text with, of its own layer; zeros if it does not, or writes to the list.
-fn refusal_of(text: &[u8]) -> (u32, u32) {
+// What reading refuses a text with, if it leaves the list as it is.
+fn refusal_of(text: &[u8]) -> Option<Refusal> {
     let mut list = [7; 452];
-    match read(text, &mut list) {
-        Err(fault) if fault.layer == Layer::Sheet && list == [7; 452] => (
-            fault.number(),
-            fault.place,
-        ),
-        _ => (0, 0),
-    }
+    let refusal = refusal_by(Layer::Sheet, read(text, &mut list))?;
+    (list == [7; 452]).then_some(refusal)
 }
 
 #[test]
@@ -266,102 +71,96 @@ fn smallest_sheet(rt: HostRuntime) {
 
 #[test]
 fn refused_texts(rt: HostRuntime) {
-    for row in &REFUSED {
-        assert_eq!(rt; refusal_of(row.text), (row.number, row.place));
+    for (text, number, place) in &REFUSED {
+        assert_eq!(rt;
+            refusal_of(text.as_bytes()),
+            refused(*number, *place),
+            "at {text:?}"
+        );
     }
 }
 
 #[test]
 fn at_the_limit_of_bytes(rt: HostRuntime) {
-    assert_eq!(rt; refusal_of(&[b'c'; 4096]), (12, 1));
-    assert_eq!(rt; refusal_of(&[b'c'; 4097]), (11, 0));
+    assert_eq!(rt; refusal_of(&[b'c'; 4096]), refused(12, 1));
+    assert_eq!(rt; refusal_of(&[b'c'; 4097]), refused(11, 0));
 }
 
 // The largest sheet: 24 inputs, 24 latches, 200 gates, literals up to 497, every start.
-pub(crate) fn lay_out_largest(list: &mut [u32; 452]) {
-    list[0] = 24;
-    list[1] = 24;
-    list[2] = 200;
-    list[3] = 497;
-    for i in 0..24u32 {
-        let place = 4 + 2 * i as usize;
-        list[place] = 497 - i;
-        list[place + 1] = i % 3;
+pub(crate) fn largest() -> [u32; 452] {
+    let mut list = [0; 452];
+    list[..4].copy_from_slice(&[24, 24, 200, 497]);
+    let latches = (474..498).rev().zip((0..3).cycle());
+    let gates = (97..497).step_by(2).zip((94..494).step_by(2));
+    let (pairs, _) = list[4..].as_chunks_mut();
+    for (pair, (first, second)) in pairs.iter_mut().zip(latches.chain(gates)) {
+        *pair = [first, second];
     }
-    for g in 0..200u32 {
-        let node = 49 + g;
-        let place = 52 + 2 * g as usize;
-        list[place] = 2 * node - 1;
-        list[place + 1] = 2 * node - 4;
-    }
+    list
 }
 
 #[test]
 fn largest_sheet(rt: HostRuntime) -> Result<(), Fail> {
-    let mut list = [0; 452];
-    lay_out_largest(&mut list);
+    let list = largest();
     let mut text = [7; 2206];
-    let len = write(&list, &mut text).ok().ok_or("refused")?;
+    let len = write(&list, &mut text).map_err(Refusal::from)?;
     assert_eq!(rt; len, 2205);
-    assert!(rt; text[2204] == b'\n' && text[2205] == 0);
+    assert!(rt; text.ends_with(b"\n\0"));
     let mut back = [7; 452];
     assert_eq!(rt; read(&text[0..2205], &mut back).ok(), Some(452));
     assert!(rt; back == list);
     Ok(())
 }
 
-// The number and the place that writing refuses the list with, of its own layer; zeros if it writes it.
-fn refusal_of_list(list: &[u32], text: &mut [u8]) -> (u32, u32) {
-    match write(list, text) {
-        Err(fault) if fault.layer == Layer::Sheet => (fault.number(), fault.place),
-        _ => (0, 0),
-    }
+// What writing refuses a list with.
+fn refusal_of_list(list: &[u32], text: &mut [u8]) -> Option<Refusal> {
+    refusal_by(Layer::Sheet, write(list, text))
 }
 
 #[test]
-fn room_for_a_sheet(rt: HostRuntime) -> Result<(), Fail> {
+fn room_for_a_sheet(rt: HostRuntime) {
     let text = b"c 0 1 0\nl 0 0\nb 2\n";
     let mut short = [7; 5];
-    match read(text, &mut short) {
-        Ok(_) => return Err(Fail::new("read")),
-        Err(fault) => assert_eq!(rt; (fault.number(), fault.place), (18, 0)),
-    }
+    assert_eq!(rt;
+        refusal_by(Layer::Sheet, read(text, &mut short)),
+        refused(18, 0)
+    );
     assert_eq!(rt; short, [7; 5]);
     let mut bytes = [9; 17];
-    assert_eq!(rt; refusal_of_list(&[0, 1, 0, 2, 0, 0], &mut bytes), (18, 0));
+    assert_eq!(rt;
+        refusal_of_list(&[0, 1, 0, 2, 0, 0], &mut bytes),
+        refused(18, 0)
+    );
     assert_eq!(rt; bytes, [9; 17]);
     let mut bytes = [9; 20];
-    assert_eq!(rt; refusal_of_list(&[0, 1, 0, 2, 0, 0, 0], &mut bytes), (0, 0));
+    assert!(rt; write(&[0, 1, 0, 2, 0, 0, 0], &mut bytes).is_ok());
     assert_eq!(rt; bytes, *b"c 0 1 0\nl 0 0\nb 2\n\0\0");
-    Ok(())
 }
+
+const ILLEGAL: [&[u32]; 11] = [
+    &[],
+    &[0, 1, 0, 2, 0],
+    &[25, 1, 0, 2, 0, 0],
+    &[0, 0, 0, 0],
+    &[0, 1, 0, 4, 0, 0],
+    &[0, 1, 0, 2, 4, 0],
+    &[0, 1, 0, 2, 0, 3],
+    &[1, 1, 1, 2, 0, 0, 2, 4],
+    &[1, 1, 1, 2, 0, 0, 6, 2],
+    &[0, 1, 0, 2, 0, 0, 0, 1],
+    &[u32::MAX, u32::MAX, u32::MAX],
+];
 
 #[test]
 fn lists_that_no_text_gives(rt: HostRuntime) {
     let mut bytes = [9; 64];
-    assert_eq!(rt; refusal_of_list(&[], &mut bytes), (21, 0));
-    assert_eq!(rt; refusal_of_list(&[0, 1, 0, 2, 0], &mut bytes), (21, 0));
-    assert_eq!(rt; refusal_of_list(&[25, 1, 0, 2, 0, 0], &mut bytes), (21, 0));
-    assert_eq!(rt; refusal_of_list(&[0, 0, 0, 0], &mut bytes), (21, 0));
-    assert_eq!(rt; refusal_of_list(&[0, 1, 0, 4, 0, 0], &mut bytes), (21, 0));
-    assert_eq!(rt; refusal_of_list(&[0, 1, 0, 2, 4, 0], &mut bytes), (21, 0));
-    assert_eq!(rt; refusal_of_list(&[0, 1, 0, 2, 0, 3], &mut bytes), (21, 0));
-    assert_eq!(rt;
-        refusal_of_list(&[1, 1, 1, 2, 0, 0, 2, 4], &mut bytes),
-        (21, 0)
-    );
-    assert_eq!(rt;
-        refusal_of_list(&[1, 1, 1, 2, 0, 0, 6, 2], &mut bytes),
-        (21, 0)
-    );
-    assert_eq!(rt;
-        refusal_of_list(&[0, 1, 0, 2, 0, 0, 0, 1], &mut bytes),
-        (21, 0)
-    );
-    assert_eq!(rt;
-        refusal_of_list(&[u32::MAX, u32::MAX, u32::MAX], &mut bytes),
-        (21, 0)
-    );
+    for list in &ILLEGAL {
+        assert_eq!(rt;
+            refusal_of_list(list, &mut bytes),
+            refused(21, 0),
+            "at {list:?}"
+        );
+    }
     assert!(rt; !is_legal(&[0, 1, 0, 2, 0, 0, 1]) && is_legal(&[0, 1, 0, 2, 0, 0, 0]));
     assert_eq!(rt; bytes, [9; 64]);
 }

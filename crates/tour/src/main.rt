@@ -1,15 +1,18 @@
 // A walk through one real task, with all that is done printed: a new hoop driver beside an older needle board.
 #![tactic(auto)]
 
+ghost use Rattle.std.specs.Prelude.{◌≡◌, Ok, IfOk};
+
 use answer::refutations::check_refutation;
-use anyhow::anyhow;
+use anyhow::{Context, anyhow, ensure};
 use formula::root::Root;
 use formula::start::start_formula;
 use interpolant::draw::interpolate;
 use machine::simulate::simulate_bits;
 use question::build::{inclusion_question, path_question, start_question};
-use question::read::{clause_count, first_count, variable_count};
+use question::read::{clause_count, first_count, number_at, variable_count};
 use sheet::fault::Fault;
+use sheet::legal::LegalSheet;
 use sheet::literal::Literal;
 use sheet::read::read;
 use sheet::write::write;
@@ -18,8 +21,6 @@ use std::{fs, io};
 const SHEET_PLACES: usize = 452;
 
 const TEXT_BYTES: usize = 4096;
-
-const MOST_LATCHES: usize = 24;
 
 const FORMULA_PLACES: usize = 64;
 
@@ -57,22 +58,28 @@ fn show_bits(rt: &HostRuntime, bits: &[bool]) -> io::Result<()> {
     Ok(())
 }
 
-// Says which check refused, and ends the walk.
-fn refused(rt: &HostRuntime, fault: Fault) -> anyhow::Result<()> {
-    println!(rt; "  refused: {} at {}", fault.number(), fault.place)?;
-    Err(anyhow!("refused"))
+// What a check answers. If it refuses, that is said, and the walk ends.
+fn accepted<T: Drop>(rt: &HostRuntime, answer: Result<T, Fault>) -> anyhow::Result<T>
+    ensures is_the_value { IfOk result (λ value. answer ≡ Ok value) }
+{
+    match answer {
+        Ok(value) => Ok(value),
+        Err(fault) => {
+            println!(rt; "  refused: {} at {}", fault.number(), fault.place)?;
+            Err(anyhow!("refused"))
+        }
+    }
 }
 
 // Writes the sheet back as a text, and says whether that is the text it was read from.
 fn write_back(rt: &HostRuntime, list: &[u32], text: &[u8]) -> anyhow::Result<()> {
     let mut copy = [0; TEXT_BYTES];
-    match write(list, &mut copy) {
-        Ok(len) if len <= TEXT_BYTES && &copy[0..len] == text => {
-            println!(rt; "  written back: the same {len} bytes")?
-        }
-        Ok(_) => return Err(anyhow!("the text that was written is another")),
-        Err(fault) => return refused(rt, fault),
-    }
+    let len = accepted(rt, write(list, &mut copy))?;
+    ensure!(
+        copy.get(..len) == Some(text),
+        "the text that was written is another"
+    );
+    println!(rt; "  written back: the same {len} bytes")?;
     Ok(())
 }
 
@@ -84,31 +91,23 @@ fn simulate(rt: &HostRuntime, list: &[u32], state: &mut [bool]) -> anyhow::Resul
         show_bits(rt, state)?;
         print!(rt; ", inputs")?;
         show_bits(rt, signals)?;
-        match simulate_bits(list, state, signals) {
-            Ok(true) => {
-                bad_steps = bad_steps.saturating_add(1);
-                println!(rt; ": bad")?
-            }
-            Ok(false) => println!(rt; ": not bad")?,
-            Err(fault) => return refused(rt, fault),
+        if accepted(rt, simulate_bits(list, state, signals))? {
+            bad_steps = bad_steps.saturating_add(1);
+            println!(rt; ": bad")?;
+        } else {
+            println!(rt; ": not bad")?;
         }
     }
     println!(rt; "  bad in {bad_steps} of these 4 states")?;
     Ok(())
 }
 
-// Puts every latch at its start, an unset one at 0.
-fn start(list: &[u32; SHEET_PLACES], state: &mut [bool; MOST_LATCHES]) {
-    for i in 0..MOST_LATCHES {
-        state[i] = list[5 + 2 * i] == 1;
-    }
-}
-
-fn run(rt: &HostRuntime, list: &[u32; SHEET_PLACES]) -> anyhow::Result<()> {
-    let mut state = [false; MOST_LATCHES];
-    start(list, &mut state);
-    let count = (list[1] as usize).min(MOST_LATCHES);
-    simulate(rt, list, &mut state[0..count])
+// Runs the machine from its start, with every unset latch at 0.
+fn run(rt: &HostRuntime, list: &[u32], sheet: LegalSheet<'_>) -> anyhow::Result<()> {
+    let mut state: Vec<bool> = (0..sheet.latches())
+        .map(|latch| sheet.start(latch).unwrap_or(false))
+        .collect(rt.alloc())?;
+    simulate(rt, list, &mut state)
 }
 
 // Says how large a question is, if there was room for it.
@@ -118,9 +117,7 @@ fn show_question(
     question: &[u32],
     len: Option<usize>,
 ) -> anyhow::Result<()> {
-    if len.is_none() {
-        return Err(anyhow!("no room for a question"));
-    }
+    len.context("no room for a question")?;
     let variables = variable_count(question);
     let clauses = clause_count(question);
     let first = first_count(question);
@@ -161,38 +158,35 @@ fn judge(
     refutation: &[u32],
 ) -> anyhow::Result<()> {
     let mut question = [0; QUESTION_PLACES];
-    let Some(len) = path_question(list, formula, start.gates, start.literal, 0, &mut question)
-    else {
-        return Err(anyhow!("no room for a question"));
-    };
-    let question = &question[0..len.min(QUESTION_PLACES)];
+    let question = path_question(list, formula, start.gates, start.literal, 0, &mut question)
+        .and_then(|len| question.get(..len))
+        .context("no room for a question")?;
     let mut work = [0; QUESTION_PLACES];
-    if let Err(fault) = check_refutation(question, refutation, &mut work) {
-        return refused(rt, fault);
-    }
+    accepted(rt, check_refutation(question, refutation, &mut work))?;
     let mut values = [0; QUESTION_PLACES];
-    let Ok(drawn) = interpolate(
+    let drawn = interpolate(
         list,
         question,
         refutation,
         formula,
         start.gates,
         &mut values,
-    ) else {
-        return Err(anyhow!("no room for the drawing"));
-    };
+    )
+    .ok()
+    .context("no room for the drawing")?;
     show_drawn(rt, &work, refutation, drawn)
 }
 
 // Says how large a refutation was, and what was drawn from it.
 fn show_drawn(
     rt: &HostRuntime,
-    work: &[u32; QUESTION_PLACES],
+    work: &[u32],
     refutation: &[u32],
     drawn: Root,
 ) -> anyhow::Result<()> {
-    let steps = refutation.first().copied().unwrap_or(0);
-    let literals = work[steps as usize % QUESTION_PLACES].saturating_sub(steps.saturating_add(1));
+    let steps = number_at(refutation, 0);
+    let end = number_at(work, steps as usize);
+    let literals = end.saturating_sub(steps.saturating_add(1));
     let literal = drawn.literal.number();
     let gates = drawn.gates;
     println!(rt;
@@ -201,38 +195,41 @@ fn show_drawn(
     Ok(())
 }
 
-// The start formula, and the questions that begin with it.
-fn pose(rt: &HostRuntime, list: &[u32], refutation: &[u32]) -> anyhow::Result<()> {
+// The start formula, and the questions that begin with it. With a refutation, that is judged too.
+fn pose(rt: &HostRuntime, list: &[u32], refutation: Option<&[u32]>) -> anyhow::Result<()> {
     let mut formula = [0; FORMULA_PLACES];
-    let Some(start) = start_formula(list, &mut formula) else {
-        return Err(anyhow!("no room for the start formula"));
-    };
+    let start = start_formula(list, &mut formula).context("no room for the start formula")?;
     let literal = start.literal.number();
     let gates = start.gates;
     println!(rt; "  start formula: literal {literal}, {gates} gates")?;
     ask(rt, list, &formula, start)?;
-    if refutation.is_empty() {
-        return Ok(());
+    match refutation {
+        Some(refutation) => judge(rt, list, &mut formula, start, refutation),
+        None => Ok(()),
     }
-    judge(rt, list, &mut formula, start, refutation)
 }
 
-fn walk(rt: &HostRuntime, name: &str, latches: &str, refutation: &[u32]) -> anyhow::Result<()> {
+fn walk(
+    rt: &HostRuntime,
+    name: &str,
+    latches: &str,
+    refutation: Option<&[u32]>,
+) -> anyhow::Result<()> {
     let text = fs::read(rt, name)?;
     let mut list = [0; SHEET_PLACES];
-    let places = match read(&text, &mut list) {
-        Ok(places) => places,
-        Err(fault) => return refused(rt, fault),
-    };
+    let places = accepted(rt, read(&text, &mut list))?;
+    let sheet = LegalSheet::new(&list).context("what was read is no sheet")?;
     println!(rt;
         "{name}: {} inputs, {} latches, {} gates",
-        list[0], list[1], list[2]
+        sheet.inputs(),
+        sheet.latches(),
+        sheet.gates()
     )?;
     print!(rt; "  list")?;
-    show_numbers(rt, &list[0..places])?;
+    show_numbers(rt, &list[..places])?;
     write_back(rt, &list, &text)?;
     println!(rt; "  inputs: announce, value, weight; latches: {latches}")?;
-    run(rt, &list)?;
+    run(rt, &list, sheet)?;
     pose(rt, &list, refutation)
 }
 
@@ -242,7 +239,7 @@ fn main(rt: HostRuntime) -> anyhow::Result<()> {
         &rt,
         "hoop-driver.sheet",
         "armed, wrong",
-        &HOOP_DRIVER_REFUTED,
+        Some(&HOOP_DRIVER_REFUTED),
     )?;
     println!(rt;
         "The same pair, repaired: the driver holds a weight back while a number is pending:"
@@ -251,6 +248,6 @@ fn main(rt: HostRuntime) -> anyhow::Result<()> {
         &rt,
         "hoop-driver-repaired.sheet",
         "armed, wrong, pending",
-        &[],
+        None,
     )
 }

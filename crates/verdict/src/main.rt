@@ -1,8 +1,7 @@
 // Reads a sheet on standard input, checks it with the splitting solver, and says how the check ended, or why it was refused.
 #![tactic(auto)]
 
-ghost use Rattle.std.specs.Prelude.{◌≤◌, length, IfOk};
-
+use checker::Refused;
 use checker::report::Report;
 use driver::drive::{Stopped, run};
 use driver::text::{ended_text, fault_text};
@@ -10,11 +9,10 @@ use producer::split::Splitting;
 use sheet::fault::Fault;
 use sheet::read::read;
 use std::alloc::{AllocError, Global};
-use std::io;
 use std::io::Read;
 
 // One byte more than a sheet may have, so that a longer text is seen to be too long.
-const TEXT_BYTES: usize = 4097;
+const TEXT_BYTES: u64 = 4097;
 
 // How many numbers each list holds.
 const PLACES: usize = 16_384;
@@ -24,22 +22,6 @@ const STEP_LIMIT: u32 = 4;
 
 // How many answers may be shown or taken.
 const TURN_LIMIT: u32 = 1000;
-
-// Fills `text` from standard input, and answers how many bytes came.
-fn read_input(rt: &HostRuntime, text: &mut [u8]) -> io::Result<usize>
-    ensures fits { IfOk result (λ n. n ≤ length text.old) }
-{
-    let mut input = rt.stdin();
-    let mut len = 0;
-    while len < text.len() {
-        let count = input.read(&mut text[len..])?;
-        if count == 0 {
-            break;
-        }
-        len += count;
-    }
-    Ok(len)
-}
 
 // The lists that a check works on, and the run that is read off.
 #[derive(Drop)]
@@ -55,21 +37,22 @@ struct Lists {
 
 impl Lists {
     fn new(heap: Global) -> Result<Lists, AllocError> {
+        let zeros = || vec![in heap; 0; PLACES];
         Ok(Lists {
-            sheet: vec![in heap; 0; PLACES]?,
-            formula: vec![in heap; 0; PLACES]?,
-            line_values: vec![in heap; 0; PLACES]?,
-            question: vec![in heap; 0; PLACES]?,
-            answer: vec![in heap; 0; PLACES]?,
-            work: vec![in heap; 0; PLACES]?,
-            run: vec![in heap; 0; PLACES]?,
+            sheet: zeros()?,
+            formula: zeros()?,
+            line_values: zeros()?,
+            question: zeros()?,
+            answer: zeros()?,
+            work: zeros()?,
+            run: zeros()?,
         })
     }
 
     // Checks the sheet that a text spells.
     fn check(&mut self, text: &[u8]) -> Result<Report, Fault> {
         read(text, &mut self.sheet)?;
-        match run(
+        let ended = run(
             &self.sheet,
             STEP_LIMIT,
             TURN_LIMIT,
@@ -79,11 +62,16 @@ impl Lists {
             &mut self.question,
             &mut self.answer,
             &mut self.work,
-        ) {
-            Ok(ended) => ended.read_off(&self.sheet, &self.answer, &mut self.run),
-            Err(Stopped::Unopened(fault)) => Err(fault),
-            Err(Stopped::Refused(refused)) => Err(refused.fault),
-        }
+        )
+        .map_err(fault_of)?;
+        ended.read_off(&self.sheet, &self.answer, &mut self.run)
+    }
+}
+
+// Why a run came to no end.
+fn fault_of(stopped: Stopped) -> Fault {
+    match stopped {
+        Stopped::Unopened(fault) | Stopped::Refused(Refused { fault, .. }) => fault,
     }
 }
 
@@ -97,9 +85,9 @@ fn verdict_on(heap: Global, text: &[u8]) -> Result<String, AllocError> {
 }
 
 fn main(rt: HostRuntime) -> anyhow::Result<()> {
-    let mut text = [0; TEXT_BYTES];
-    let len = read_input(&rt, &mut text)?;
-    let said = verdict_on(rt.alloc(), &text[0..len])?;
+    let mut text = Vec::new(rt.alloc());
+    rt.stdin().take(TEXT_BYTES).read_to_end(&mut text)?;
+    let said = verdict_on(rt.alloc(), &text)?;
     print!(rt; "{said}")?;
     Ok(())
 }
