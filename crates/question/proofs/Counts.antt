@@ -4,9 +4,10 @@ use Rattle.std.proofs.lemmas.List.{append_assoc, length-append}
 use Rattle.lists.specs.Stretch.{stretch}
 use Rattle.sheet.specs.Sheets.{Sheet}
 use Rattle.formula.specs.Formulas.{width}
-use Rattle.formula.specs.Framing.{in_frame}
-use Rattle.question.specs.Clauses.{gate_clauses, frame_clauses, latch_clauses, link_clauses, formula_gate, formula_clauses, unit, bad_clauses, state_clauses, first_clauses, second_clauses, path_clauses}
+use Rattle.formula.specs.Framing.{in_frame, in_question}
+use Rattle.question.specs.Clauses.{gate_clauses, frame_clauses, latch_clauses, link_clauses, formula_gate, formula_clauses, bad_clauses, state_clauses, first_clauses, second_clauses, path_clauses}
 use Rattle.question.specs.Layout.{flat}
+use Rattle.question.specs.Writing.{both_clauses, begin_clauses}
 use Rattle.question.specs.Sizes.{state_clause_count, state_literal_count, first_clause_count, first_literal_count, second_clause_count, second_literal_count}
 
 pub flat_append : (xs ys : List (List ℕ)) → flat (xs ++ ys) ≡ flat xs ++ flat ys
@@ -55,20 +56,26 @@ module _ (s : Sheet) where
   formula_literals m f n = omega (arith, stretch_literals (formula_gate s m f) 7 (λ i. refl) n 0)
 
   module _ (f : List ℕ) (n : ℕ) where
-    pub state_length : (x y : ℕ) → length (state_clauses s f n x y) ≡ state_clause_count s n
-    state_length x y =
-        let end : List (List ℕ) = unit s 1 x ++ ((y ∷ []) ∷ []) in
+    pub both_length : (x y : ℕ) → length (both_clauses s f n x y) ≡ state_clause_count s n
+    both_length x y =
+        let end : List (List ℕ) = (x ∷ []) ∷ (y ∷ []) ∷ [] in
         omega (arith, length-append (frame_clauses s 0) (formula_clauses s 1 f n ++ end), length-append (formula_clauses s 1 f n) end, frame_length 0, formula_length 1 f n)
 
-    pub state_literals : (x y : ℕ) → literals (state_clauses s f n x y) ≡ state_literal_count s n
-    state_literals x y =
-        let end : List (List ℕ) = unit s 1 x ++ ((y ∷ []) ∷ []) in
+    pub both_literals : (x y : ℕ) → literals (both_clauses s f n x y) ≡ state_literal_count s n
+    both_literals x y =
+        let end : List (List ℕ) = (x ∷ []) ∷ (y ∷ []) ∷ [] in
         omega (arith, literals_append (frame_clauses s 0) (formula_clauses s 1 f n ++ end), literals_append (formula_clauses s 1 f n) end, frame_literals 0, formula_literals 1 f n)
 
-    pub first_length : (r k : ℕ) → length (first_clauses s f n r k) ≡ first_clause_count s n
-    first_length r k =
+    pub state_length : (x y : ℕ) → length (state_clauses s f n x y) ≡ state_clause_count s n
+    state_length x y = both_length (in_question (width s) 1 x) y
+
+    pub state_literals : (x y : ℕ) → literals (state_clauses s f n x y) ≡ state_literal_count s n
+    state_literals x y = both_literals (in_question (width s) 1 x) y
+
+    pub begin_length : (x k : ℕ) → length (begin_clauses s f n x k) ≡ first_clause_count s n
+    begin_length x k =
         let gates : List (List ℕ) = formula_clauses s (k + 2) f n in
-        let end : List (List ℕ) = unit s (k + 2) r in
+        let end : List (List ℕ) = (x ∷ []) ∷ [] in
         omega (
           arith,
           length-append (frame_clauses s 0) (link_clauses s 0 ++ (gates ++ end)),
@@ -79,10 +86,10 @@ module _ (s : Sheet) where
           formula_length (k + 2) f n,
         )
 
-    pub first_literals : (r k : ℕ) → literals (first_clauses s f n r k) ≡ first_literal_count s n
-    first_literals r k =
+    pub begin_literals : (x k : ℕ) → literals (begin_clauses s f n x k) ≡ first_literal_count s n
+    begin_literals x k =
         let gates : List (List ℕ) = formula_clauses s (k + 2) f n in
-        let end : List (List ℕ) = unit s (k + 2) r in
+        let end : List (List ℕ) = (x ∷ []) ∷ [] in
         omega (
           arith,
           literals_append (frame_clauses s 0) (link_clauses s 0 ++ (gates ++ end)),
@@ -92,6 +99,9 @@ module _ (s : Sheet) where
           link_literals 0,
           formula_literals (k + 2) f n,
         )
+
+    pub first_length : (r k : ℕ) → length (first_clauses s f n r k) ≡ first_clause_count s n
+    first_length r k = begin_length (in_question (width s) (k + 2) r) k
 
   module _ (k : ℕ) where
     bad_literals : literals (bad_clauses s k) ≡ k + 1
@@ -124,8 +134,14 @@ module _ (s : Sheet) where
           stretch_literals (link_clauses s) (4 * s.latches) link_literals k 1,
         )
 
+    pub begun_length : (f : List ℕ) (n x : ℕ) → length (begin_clauses s f n x k ++ second_clauses s k) ≡ first_clause_count s n + second_clause_count s k
+    begun_length f n x = length-append (begin_clauses s f n x k) (second_clauses s k) ∙ (λ i. begin_length f n x k i + second_length i)
+
+    pub begun_literals : (f : List ℕ) (n x : ℕ) → literals (begin_clauses s f n x k ++ second_clauses s k) ≡ first_literal_count s n + second_literal_count s k
+    begun_literals f n x = literals_append (begin_clauses s f n x k) (second_clauses s k) ∙ (λ i. begin_literals f n x k i + second_literals i)
+
     pub path_length : (f : List ℕ) (n r : ℕ) → length (path_clauses s f n r k) ≡ first_clause_count s n + second_clause_count s k
-    path_length f n r = length-append (first_clauses s f n r k) (second_clauses s k) ∙ (λ i. first_length f n r k i + second_length i)
+    path_length f n r = begun_length f n (in_question (width s) (k + 2) r)
 
     pub path_literals : (f : List ℕ) (n r : ℕ) → literals (path_clauses s f n r k) ≡ first_literal_count s n + second_literal_count s k
-    path_literals f n r = literals_append (first_clauses s f n r k) (second_clauses s k) ∙ (λ i. first_literals f n r k i + second_literals i)
+    path_literals f n r = begun_literals f n (in_question (width s) (k + 2) r)

@@ -1,5 +1,5 @@
 -- What posing a question answers and leaves. Assumes nothing.
-use Rattle.std.proofs.Common.{◌≡◌, ℕ, ◌+◌, ◌-◌, ◌*◌, ◌^◌, ◌<◌, ◌≤◌, min, Bool, true, false, ltb, leb, List, ◌++◌, length, take, drop, Some, None, Option, sym, refl, ap, ◌∙◌, zero-mul, arith, length-take}
+use Rattle.std.proofs.Common.{cond, ◌≡◌, ℕ, ◌+◌, ◌-◌, ◌*◌, ◌^◌, ◌<◌, ◌≤◌, min, Bool, true, false, ltb, leb, List, ◌++◌, length, take, drop, is_some, Some, None, Option, sym, refl, ap, ◌∙◌, zero-mul, arith, length-take}
 use borrow.Rule.Slice.PartMut.{post_of}
 use Rattle.std.proofs.lemmas.Nat.{mul-le}
 use Rattle.std.proofs.lemmas.List.{length-append}
@@ -11,7 +11,8 @@ use Rattle.sheet.specs.Sheets.{Sheet, Legal, sheet_of}
 use Rattle.sheet.proofs.Legality.{well_formed_legal}
 use Rattle.formula.specs.Conjunction.{opposite}
 use Rattle.formula.specs.Formulas.{width}
-use Rattle.formula.specs.Framing.{in_frame, in_question}
+use Rattle.formula.specs.Framing.{in_frame, in_question, question_literal}
+use Rattle.formula.specs.declared.question_literal.QuestionLiteral.{QuestionLiteral}
 use Rattle.question.specs.Clauses.{state_clauses, first_clauses, second_clauses, path_clauses}
 use Rattle.question.specs.Layout.{flat, encode, start_list, path_list, inclusion_list, all_below, written, given, posed, posed_if}
 use Rattle.question.specs.Sizes.{state_clause_count, state_literal_count, first_clause_count, first_literal_count, second_clause_count, second_literal_count}
@@ -116,6 +117,26 @@ module _ (l : List ℕ) (legal : Legal l) (f : List ℕ) (n : ℕ) (whole : 2 * 
       path_posed fit =
           posed_written v (length (first_clauses s f n r k)) (path_clauses s f n r k) old path_vs firsts (omega (arith, path_size)) few
           (path_below l legal f n whole counts r k bound ∙ fit)
+
+-- ---- a literal that is to have 32 bits
+placed_some : (x : ℕ) → is_some (question_literal x) ≡ ltb x (2 ^ 32)
+placed_some x = elim (ltb x (2 ^ 32)) as (λ b. let o : Option QuestionLiteral = cond b (Some (record { 0 = x })) None in is_some o ≡ b) [
+  | true ↦ refl
+  | false ↦ refl
+]
+
+pub placed_not : (x : ℕ) → None ≡ question_literal x → ltb x (2 ^ 32) ≡ false
+placed_not x h = sym (ap is_some h ∙ placed_some x)
+
+pub placed_fits : (x : ℕ) (y : QuestionLiteral) → Some y ≡ question_literal x → ltb x (2 ^ 32) ≡ true
+placed_fits x y h = sym (ap is_some h ∙ placed_some x)
+
+abbrev number_in : Option QuestionLiteral → ℕ
+number_in None = 0
+number_in (Some y) = y.0
+
+pub placed_is : (x : ℕ) (y : QuestionLiteral) → Some y ≡ question_literal x → y.0 ≡ x
+placed_is x y h = ap number_in (h ∙ cond-true _ _ _ (placed_fits x y h))
 
 -- ---- in what counts of a lent list
 pub posed_not : (b : Bool) (q old : List ℕ) → b ≡ false → ◌≡◌ {A = Posed} (None, old) (posed_if b q old)

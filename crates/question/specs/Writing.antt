@@ -1,8 +1,11 @@
 -- What is written into a list of clauses. Assumes nothing.
-use Rattle.std.specs.Prelude.{◌≡◌, ℕ, ◌+◌, ◌^◌, ◌<◌, ◌≤◌, List, [], ◌∷◌, length, replicate, slice_set}
-use Rattle.formula.specs.Formulas.{left_of, right_of}
+use Rattle.std.specs.Prelude.{◌≡◌, ℕ, ◌+◌, ◌*◌, ◌^◌, ◌<◌, ◌≤◌, List, [], ◌∷◌, ◌++◌, length, replicate, slice_set}
+use Rattle.sheet.specs.Sheets.{Sheet}
+use Rattle.formula.specs.Formulas.{width, left_of, right_of}
 use Rattle.formula.specs.Framing.{in_question}
 use Rattle.formula.specs.declared.question_literal.QuestionLiteral.{QuestionLiteral}
+use Rattle.question.specs.Clauses.{frame_clauses, link_clauses, formula_clauses, second_clauses}
+use Rattle.question.specs.Layout.{encode}
 use Rattle.question.specs.declared.page.Page.{Page}
 
 -- where the place of the next clause goes, and where the next literal
@@ -62,3 +65,15 @@ pub record Moved (x y : Page) (n m : ℕ) : Type 0 where
 -- each operand of the first n gates of a formula list has 32 bits in a question of m frames
 abbrev pub OperandsFit : ℕ → ℕ → List ℕ → ℕ → Type 0
 OperandsFit w m f n = (g : ℕ) → g < n → (in_question w m (left_of f g) < 2 ^ 32) × (in_question w m (right_of f g) < 2 ^ 32)
+
+-- the clauses of a question of one frame, where literals x and y of the question have to be true
+abbrev pub both_clauses : Sheet → List ℕ → ℕ → ℕ → ℕ → List (List ℕ)
+both_clauses s f n x y = frame_clauses s 0 ++ (formula_clauses s 1 f n ++ ((x ∷ []) ∷ (y ∷ []) ∷ []))
+
+-- the first part of a path question, where a literal x of the question has to be true, and the whole question
+abbrev pub begin_clauses : Sheet → List ℕ → ℕ → ℕ → ℕ → List (List ℕ)
+begin_clauses s f n x k = frame_clauses s 0 ++ (link_clauses s 0 ++ (formula_clauses s (k + 2) f n ++ ((x ∷ []) ∷ [])))
+
+abbrev pub begun_list : Sheet → List ℕ → ℕ → ℕ → ℕ → List ℕ
+begun_list s f n x k =
+    encode ((k + 2) * width s + n) (length (begin_clauses s f n x k)) (begin_clauses s f n x k ++ second_clauses s k)

@@ -24,13 +24,6 @@ pub(crate) struct GateList<'a> {
     pub ghost few: { length list.now ≤ 2 ^ 28 },
 }
 
-// Whether a formula's literal has 32 bits in a question of so many frames.
-fn literal_fits(sheet: LegalSheet<'_>, frames: u32, literal: Literal) -> bool
-    ensures { result ≡ nat_lt (in_question (width (sheet_of sheet.entry.numbers.now)) frames literal.0) (2 ^ 32) }
-{
-    in_question(literal, frames, sheet.width()).is_some()
-}
-
 // A formula's literal in a question of so many frames, where it has 32 bits.
 pub(crate) fn placed(sheet: LegalSheet<'_>, frames: u32, literal: Literal) -> QuestionLiteral
     requires { in_question (width (sheet_of sheet.numbers.now)) frames literal.0 < 2 ^ 32 }
@@ -65,61 +58,73 @@ impl<'a> GateList<'a> {
     }
 
     // Whether each operand has 32 bits in a question of so many frames.
-    fn operands_fit(self, sheet: LegalSheet<'_>, frames: u32) -> bool
+    fn fits(self, sheet: LegalSheet<'_>, frames: u32) -> bool
         ensures { result ≡ list_all (λ x. nat_lt (in_question (width (sheet_of sheet.entry.numbers.now)) frames x) (2 ^ 32)) (take (2 * self.entry.count) self.entry.list.now) }
     {
         let operands = &self.list[..2 * self.count as usize];
-        operands
-            .iter()
-            .all(|x| literal_fits(sheet, frames, Literal::from_number(*x)))
+        operands.iter().all(|x| in_question(
+            Literal::from_number(*x),
+            frames,
+            sheet.width(),
+        ).is_some())
     }
+}
 
-    // Whether each operand, and a further literal, has 32 bits there.
-    pub(crate) fn fit(self, sheet: LegalSheet<'_>, frames: u32, literal: Literal) -> bool
-        ensures { result ≡ (list_all (λ x. nat_lt (in_question (width (sheet_of sheet.entry.numbers.now)) frames x) (2 ^ 32)) (take (2 * self.entry.count) self.entry.list.now) && nat_lt (in_question (width (sheet_of sheet.entry.numbers.now)) frames literal.0) (2 ^ 32)) }
+// The gates of formulas in a question of so many frames, where each operand has 32 bits.
+#[derive(Clone, Copy)]
+pub(crate) struct Formulas<'a> {
+    pub sheet: LegalSheet<'a>,
+    pub gates: GateList<'a>,
+    pub frames: u32,
+    pub ghost bound: { (1 ≤ frames) × (frames ≤ 32) },
+    pub ghost bits: { OperandsFit (width (sheet_of sheet.numbers.now)) frames gates.list.now gates.count },
+}
+
+impl<'a> Formulas<'a> {
+    // None where an operand leaves 32 bits.
+    pub(crate) fn new(
+        sheet: LegalSheet<'a>,
+        gates: GateList<'a>,
+        frames: u32,
+    ) -> Option<Formulas<'a>>
+        requires { (1 ≤ frames) × (frames ≤ 32) }
+        ensures is_the_test { is_some result ≡ list_all (λ x. nat_lt (in_question (width (sheet_of sheet.entry.numbers.now)) frames x) (2 ^ 32)) (take (2 * gates.entry.count) gates.entry.list.now) }
+        ensures has_what_was_given { IfSome result (λ formulas. (formulas.sheet.numbers.now ≡ sheet.entry.numbers.now) × (formulas.gates.list.now ≡ gates.entry.list.now) × (formulas.gates.count ≡ gates.entry.count) × (formulas.frames ≡ frames)) }
     {
-        self.operands_fit(sheet, frames) && literal_fits(sheet, frames, literal)
+        if !gates.fits(sheet, frames) {
+            return None;
+        }
+        Some(Formulas {
+            sheet,
+            gates,
+            frames,
+        })
     }
-}
 
-// The three clauses of gate `g` of a list.
-fn put_formula_gate(
-    page: &mut Page<'_>,
-    sheet: LegalSheet<'_>,
-    frames: u32,
-    gates: GateList<'_>,
-    g: u32,
-)
-    requires bound { (1 ≤ frames) × (frames ≤ 32) }
-    requires place { g < gates.count }
-    requires bits { OperandsFit (width (sheet_of sheet.numbers.now)) frames gates.list.now gates.count }
-    requires room { Room page.old 3 7 }
-    ensures page { held page.new ≡ puts (held page.old) (formula_gate (sheet_of sheet.entry.numbers.now) frames gates.entry.list.now g) }
-    ensures moved { Moved page.old page.new 3 7 }
-{
-    let gate = Literal::from_number(2 * (sheet.width() + g));
-    let (left, right) = gates.operands(g);
-    page.put_and(
-        placed(sheet, frames, gate),
-        placed(sheet, frames, left),
-        placed(sheet, frames, right),
-    );
-}
+    // The three clauses of gate `g`.
+    fn put_gate(self, page: &mut Page<'_>, g: u32)
+        requires place { g < self.gates.count }
+        requires room { Room page.old 3 7 }
+        ensures page { held page.new ≡ puts (held page.old) (formula_gate (sheet_of self.entry.sheet.numbers.now) self.entry.frames self.entry.gates.list.now g) }
+        ensures moved { Moved page.old page.new 3 7 }
+    {
+        let gate = Literal::from_number(2 * (self.sheet.width() + g));
+        let (left, right) = self.gates.operands(g);
+        page.put_and(
+            placed(self.sheet, self.frames, gate),
+            placed(self.sheet, self.frames, left),
+            placed(self.sheet, self.frames, right),
+        );
+    }
 
-// All gates of a list.
-pub(crate) fn put_formula(
-    page: &mut Page<'_>,
-    sheet: LegalSheet<'_>,
-    frames: u32,
-    gates: GateList<'_>,
-)
-    requires bound { (1 ≤ frames) × (frames ≤ 32) }
-    requires bits { OperandsFit (width (sheet_of sheet.numbers.now)) frames gates.list.now gates.count }
-    requires room { Room page.old (3 * gates.count) (7 * gates.count) }
-    ensures page { held page.new ≡ puts (held page.old) (formula_clauses (sheet_of sheet.entry.numbers.now) frames gates.entry.list.now gates.entry.count) }
-    ensures moved { Moved page.old page.new (3 * gates.entry.count) (7 * gates.entry.count) }
-{
-    for g in 0..gates.count {
-        put_formula_gate(page, sheet, frames, gates, g);
+    // All gates.
+    pub(crate) fn put(self, page: &mut Page<'_>)
+        requires room { Room page.old (3 * self.gates.count) (7 * self.gates.count) }
+        ensures page { held page.new ≡ puts (held page.old) (formula_clauses (sheet_of self.entry.sheet.numbers.now) self.entry.frames self.entry.gates.list.now self.entry.gates.count) }
+        ensures moved { Moved page.old page.new (3 * self.entry.gates.count) (7 * self.entry.gates.count) }
+    {
+        for g in 0..self.gates.count {
+            self.put_gate(page, g);
+        }
     }
 }
