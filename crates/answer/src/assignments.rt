@@ -59,7 +59,10 @@ fn judge(question: &[u32], assignment: &[u32]) -> Result<(), Fault>
         });
     }
     unless_found(Cause::NotABit, first_non_bit(assignment))?;
-    unless_found(Cause::FalseClause, lowest_false_clause(question, assignment))
+    unless_found(
+        Cause::FalseClause,
+        lowest_false_clause(question, assignment),
+    )
 }
 
 // Whether an assignment has a number for each variable (else 31), each 0 or 1 (else 32, at the first variable whose number
