@@ -19,3 +19,4 @@ pub mod Posing
 pub mod Reading
 pub mod Promises
 pub mod Numbers
+mod Pairs

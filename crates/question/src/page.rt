@@ -1,5 +1,5 @@
 // Writing clauses into a list: the places where they start stand in front, and the literals behind all places.
-ghost use Rattle.std.specs.Prelude.{◌≡◌, ◌+◌, ◌%◌, ◌^◌, ◌<◌, ◌≤◌, map, length};
+ghost use Rattle.std.specs.Prelude.{◌≡◌, ◌+◌, ◌%◌, ◌^◌, ◌<◌, ◌≤◌, [], ◌∷◌, map, length};
 ghost use Rattle.question.specs.Clauses.{and_clauses};
 ghost use Rattle.question.specs.Writing.{held, begun, opened, pushed, put, puts, closed, Room, Moved, number};
 
@@ -66,6 +66,24 @@ impl<'a> Page<'a> {
         }
     }
 
+    // Two clauses.
+    pub(crate) fn put_two(&mut self, first: &[QuestionLiteral], second: &[QuestionLiteral])
+        requires room { Room self.old 2 (length first.now + length second.now) }
+        ensures page { held self.new ≡ puts (held self.old) (map number first.now ∷ map number second.now ∷ []) }
+        ensures moved { Moved self.old self.new 2 (length first.now + length second.now) }
+    {
+        let mut page = Page {
+            question: self.question,
+            at: self.at,
+            to: self.to,
+        };
+        page.put_clause(first);
+        page.put_clause(second);
+        let Page { question: _, at, to } = page;
+        self.at = at;
+        self.to = to;
+    }
+
     // The three clauses that a gate is the AND of two literals; the right one's variable is the lowest, so that literals
     // ascend.
     pub(crate) fn put_and(
@@ -80,9 +98,17 @@ impl<'a> Page<'a> {
         ensures moved { Moved self.old self.new 3 7 }
     {
         let negated = gate.opposite();
-        self.put_clause(&[left, negated]);
-        self.put_clause(&[right, negated]);
-        self.put_clause(&[right.opposite(), left.opposite(), gate]);
+        let mut page = Page {
+            question: self.question,
+            at: self.at,
+            to: self.to,
+        };
+        page.put_clause(&[left, negated]);
+        page.put_clause(&[right, negated]);
+        page.put_clause(&[right.opposite(), left.opposite(), gate]);
+        let Page { question: _, at, to } = page;
+        self.at = at;
+        self.to = to;
     }
 
     // The place where the last clause ends, which is how long the question is.

@@ -2,7 +2,7 @@
 // A frame is a copy of the sheet's nodes for one state of a path.
 ghost use Rattle.std.specs.Prelude.{◌≡◌, ◌+◌, ◌*◌, ◌/◌, ◌<◌, ◌≤◌};
 ghost use Rattle.lists.specs.Stretch.{stretch};
-ghost use Rattle.sheet.specs.Sheets.{sheet_of, latch_count, gate_count, node_count};
+ghost use Rattle.sheet.specs.Sheets.{sheet_of, latch_count, gate_count, node_count, left_of, right_of};
 ghost use Rattle.formula.specs.Formulas.{width};
 ghost use Rattle.formula.specs.Framing.{in_frame};
 ghost use Rattle.question.specs.Clauses.{gate_clauses, frame_clauses, latch_clauses, link_clauses, bad_clauses};
@@ -31,6 +31,20 @@ pub(crate) fn bad_in(sheet: LegalSheet<'_>, t: u32) -> QuestionLiteral
     framed(sheet, t, sheet.bad())
 }
 
+// The left operand of gate `g`, and its right one. `LegalSheet::operands` also tests whether there is such a gate.
+#[tactic(auto, using(crate::proofs::Pairs::left_at, crate::proofs::Pairs::right_at))]
+fn operands(sheet: LegalSheet<'_>, g: u32) -> (Literal, Literal)
+    requires { g < gate_count sheet.numbers.now }
+    ensures { (result.0.0 ≡ left_of sheet.entry.numbers.now g) × (result.1.0 ≡ right_of sheet.entry.numbers.now g) }
+{
+    let pairs = sheet.gate_pairs();
+    let place = 2 * g as usize;
+    (
+        Literal::from_number(pairs[place]),
+        Literal::from_number(pairs[place + 1]),
+    )
+}
+
 // The three clauses of gate `g` in frame `t`.
 fn put_gate(page: &mut Page<'_>, sheet: LegalSheet<'_>, t: u32, g: u32)
     requires place { (t ≤ 31) × (g < gate_count sheet.numbers.now) }
@@ -39,7 +53,7 @@ fn put_gate(page: &mut Page<'_>, sheet: LegalSheet<'_>, t: u32, g: u32)
     ensures moved { Moved page.old page.new 3 7 }
 {
     let gate = Literal::from_number(2 * (sheet.first_gate() + g));
-    let (left, right) = sheet.operands(g);
+    let (left, right) = operands(sheet, g);
     page.put_and(
         framed(sheet, t, gate),
         framed(sheet, t, left),
@@ -74,8 +88,7 @@ fn put_latch(page: &mut Page<'_>, sheet: LegalSheet<'_>, t: u32, i: u32)
     let not_next = framed(sheet, t, next.opposite());
     let is_set = framed(sheet, t + 1, latch);
     let not_set = framed(sheet, t + 1, latch.opposite());
-    page.put_clause(&[is_next, not_set]);
-    page.put_clause(&[not_next, is_set]);
+    page.put_two(&[is_next, not_set], &[not_next, is_set]);
 }
 
 // Link `t`: each latch has in frame `t + 1` the value of its `next` in frame `t`.
