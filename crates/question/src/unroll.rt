@@ -14,13 +14,15 @@ use formula::question_literal::QuestionLiteral;
 use sheet::legal::LegalSheet;
 use sheet::literal::Literal;
 
-// A literal of a sheet in one of at most 32 frames, where it always has 32 bits.
-fn framed(sheet: LegalSheet<'_>, t: u32, literal: Literal) -> QuestionLiteral
+// A literal of a sheet of so many nodes in one of at most 32 frames, where it always has 32 bits. Loops ask the sheet for its
+// width once: after each store into a page the counts would be read again.
+fn framed(nodes: u32, t: u32, literal: Literal) -> QuestionLiteral
     requires frame { t ≤ 31 }
-    requires node { literal.0 / 2 < node_count sheet.numbers.now }
-    ensures { result.0 ≡ in_frame (width (sheet_of sheet.entry.numbers.now)) t literal.0 }
+    requires few { nodes ≤ 249 }
+    requires node { literal.0 / 2 < nodes }
+    ensures { result.0 ≡ in_frame nodes t literal.0 }
 {
-    in_frame(literal, t, sheet.width()).unwrap()
+    in_frame(literal, t, nodes).unwrap()
 }
 
 // The bad literal in a frame.
@@ -28,7 +30,7 @@ pub(crate) fn bad_in(sheet: LegalSheet<'_>, t: u32) -> QuestionLiteral
     requires frame { t ≤ 31 }
     ensures { result.0 ≡ in_frame (width (sheet_of sheet.entry.numbers.now)) t (sheet_of sheet.entry.numbers.now).bad }
 {
-    framed(sheet, t, sheet.bad())
+    framed(sheet.width(), t, sheet.bad())
 }
 
 // The left operand of gate `g`, and its right one. `LegalSheet::operands` also tests whether there is such a gate.
@@ -46,7 +48,8 @@ fn operands(sheet: LegalSheet<'_>, g: u32) -> (Literal, Literal)
 }
 
 // The three clauses of gate `g` in frame `t`.
-fn put_gate(page: &mut Page<'_>, sheet: LegalSheet<'_>, t: u32, g: u32)
+fn put_gate(page: &mut Page<'_>, sheet: LegalSheet<'_>, nodes: u32, t: u32, g: u32)
+    requires nodes { nodes ≡ node_count sheet.numbers.now }
     requires place { (t ≤ 31) × (g < gate_count sheet.numbers.now) }
     requires room { Room page.old 3 7 }
     ensures page { held page.new ≡ puts (held page.old) (gate_clauses (sheet_of sheet.entry.numbers.now) t g) }
@@ -55,9 +58,9 @@ fn put_gate(page: &mut Page<'_>, sheet: LegalSheet<'_>, t: u32, g: u32)
     let gate = Literal::from_number(2 * (sheet.first_gate() + g));
     let (left, right) = operands(sheet, g);
     page.put_and(
-        framed(sheet, t, gate),
-        framed(sheet, t, left),
-        framed(sheet, t, right),
+        framed(nodes, t, gate),
+        framed(nodes, t, left),
+        framed(nodes, t, right),
     );
 }
 
@@ -68,15 +71,17 @@ pub(crate) fn put_frame(page: &mut Page<'_>, sheet: LegalSheet<'_>, t: u32)
     ensures page { held page.new ≡ puts (held page.old) (frame_clauses (sheet_of sheet.entry.numbers.now) t) }
     ensures moved { Moved page.old page.new (1 + 3 * gate_count sheet.entry.numbers.now) (1 + 7 * gate_count sheet.entry.numbers.now) }
 {
-    let constant = framed(sheet, t, Literal::from_number(1));
+    let nodes = sheet.width();
+    let constant = framed(nodes, t, Literal::from_number(1));
     page.put_clause(&[constant]);
     for g in 0..sheet.gates() {
-        put_gate(page, sheet, t, g);
+        put_gate(page, sheet, nodes, t, g);
     }
 }
 
 // The two clauses of latch `i` between the frames `t` and `t + 1`.
-fn put_latch(page: &mut Page<'_>, sheet: LegalSheet<'_>, t: u32, i: u32)
+fn put_latch(page: &mut Page<'_>, sheet: LegalSheet<'_>, nodes: u32, t: u32, i: u32)
+    requires nodes { nodes ≡ node_count sheet.numbers.now }
     requires place { (t ≤ 30) × (i < latch_count sheet.numbers.now) }
     requires room { Room page.old 2 4 }
     ensures page { held page.new ≡ puts (held page.old) (latch_clauses (sheet_of sheet.entry.numbers.now) t i) }
@@ -84,10 +89,10 @@ fn put_latch(page: &mut Page<'_>, sheet: LegalSheet<'_>, t: u32, i: u32)
 {
     let next = sheet.next(i);
     let latch = Literal::from_number(2 * (sheet.first_latch() + i));
-    let is_next = framed(sheet, t, next);
-    let not_next = framed(sheet, t, next.opposite());
-    let is_set = framed(sheet, t + 1, latch);
-    let not_set = framed(sheet, t + 1, latch.opposite());
+    let is_next = framed(nodes, t, next);
+    let not_next = framed(nodes, t, next.opposite());
+    let is_set = framed(nodes, t + 1, latch);
+    let not_set = framed(nodes, t + 1, latch.opposite());
     page.put_two(&[is_next, not_set], &[not_next, is_set]);
 }
 
@@ -98,8 +103,9 @@ pub(crate) fn put_link(page: &mut Page<'_>, sheet: LegalSheet<'_>, t: u32)
     ensures page { held page.new ≡ puts (held page.old) (link_clauses (sheet_of sheet.entry.numbers.now) t) }
     ensures moved { Moved page.old page.new (2 * latch_count sheet.entry.numbers.now) (4 * latch_count sheet.entry.numbers.now) }
 {
+    let nodes = sheet.width();
     for i in 0..sheet.latches() {
-        put_latch(page, sheet, t, i);
+        put_latch(page, sheet, nodes, t, i);
     }
 }
 
