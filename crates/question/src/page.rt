@@ -66,7 +66,7 @@ impl<'a> Page<'a> {
         }
     }
 
-    // Two clauses.
+    // Two clauses. The places stand in a page of the function's own meanwhile: in `self` they are read again after each store.
     pub(crate) fn put_two(&mut self, first: &[QuestionLiteral], second: &[QuestionLiteral])
         requires room { Room self.old 2 (length first.now + length second.now) }
         ensures page { held self.new ≡ puts (held self.old) (map number first.now ∷ map number second.now ∷ []) }
@@ -79,13 +79,17 @@ impl<'a> Page<'a> {
         };
         page.put_clause(first);
         page.put_clause(second);
-        let Page { question: _, at, to } = page;
+        let Page {
+            question: _,
+            at,
+            to,
+        } = page;
         self.at = at;
         self.to = to;
     }
 
     // The three clauses that a gate is the AND of two literals; the right one's variable is the lowest, so that literals
-    // ascend.
+    // ascend. The places stand in a page of its own, as in `put_two`.
     pub(crate) fn put_and(
         &mut self,
         gate: QuestionLiteral,
@@ -106,7 +110,11 @@ impl<'a> Page<'a> {
         page.put_clause(&[left, negated]);
         page.put_clause(&[right, negated]);
         page.put_clause(&[right.opposite(), left.opposite(), gate]);
-        let Page { question: _, at, to } = page;
+        let Page {
+            question: _,
+            at,
+            to,
+        } = page;
         self.at = at;
         self.to = to;
     }

@@ -14,8 +14,8 @@ use formula::question_literal::QuestionLiteral;
 use sheet::legal::LegalSheet;
 use sheet::literal::Literal;
 
-// A literal of a sheet of so many nodes in one of at most 32 frames, where it always has 32 bits. Loops ask the sheet for its
-// width once: after each store into a page the counts would be read again.
+// A literal of a sheet of so many nodes in one of at most 32 frames, where it always has 32 bits. A loop asks for the sheet's
+// width once, before it: after each store into the page the counts would be read again.
 fn framed(nodes: u32, t: u32, literal: Literal) -> QuestionLiteral
     requires frame { t ≤ 31 }
     requires few { nodes ≤ 249 }
@@ -33,7 +33,7 @@ pub(crate) fn bad_in(sheet: LegalSheet<'_>, t: u32) -> QuestionLiteral
     framed(sheet.width(), t, sheet.bad())
 }
 
-// The left operand of gate `g`, and its right one. `LegalSheet::operands` also tests whether there is such a gate.
+// The left operand of gate `g`, and its right one, without the tests of `LegalSheet::operands`, which takes any number.
 #[tactic(auto, using(crate::proofs::Pairs::left_at, crate::proofs::Pairs::right_at))]
 fn operands(sheet: LegalSheet<'_>, g: u32) -> (Literal, Literal)
     requires { g < gate_count sheet.numbers.now }
@@ -47,7 +47,7 @@ fn operands(sheet: LegalSheet<'_>, g: u32) -> (Literal, Literal)
     )
 }
 
-// The three clauses of gate `g` in frame `t`.
+// The three clauses of gate `g` in frame `t` of a sheet of so many nodes.
 fn put_gate(page: &mut Page<'_>, sheet: LegalSheet<'_>, nodes: u32, t: u32, g: u32)
     requires nodes { nodes ≡ node_count sheet.numbers.now }
     requires place { (t ≤ 31) × (g < gate_count sheet.numbers.now) }
@@ -79,7 +79,7 @@ pub(crate) fn put_frame(page: &mut Page<'_>, sheet: LegalSheet<'_>, t: u32)
     }
 }
 
-// The two clauses of latch `i` between the frames `t` and `t + 1`.
+// The two clauses of latch `i` between the frames `t` and `t + 1` of a sheet of so many nodes.
 fn put_latch(page: &mut Page<'_>, sheet: LegalSheet<'_>, nodes: u32, t: u32, i: u32)
     requires nodes { nodes ≡ node_count sheet.numbers.now }
     requires place { (t ≤ 30) × (i < latch_count sheet.numbers.now) }
