@@ -3,7 +3,7 @@ ghost use Rattle.std.specs.Prelude.{◌≡◌, slice_index};
 ghost use Rattle.lists.specs.Counted.{counted};
 ghost use Rattle.question.specs.Questions.{variable_count, clause_count, first_count, clause_of};
 
-use lists::{counted, front, item_or};
+use lists::{counted, item_or};
 
 // The number at a place of a list, and 0 past its end. Every place counts: a lent list is cut to its first 2^28 places before.
 pub fn number_at(list: &[u32], place: usize) -> u32
@@ -38,6 +38,7 @@ pub fn clause(question: &[u32], k: u32) -> &[u32]
     let question = counted(question);
     let start = number_at(question, 3 + k as usize) as usize;
     let end = number_at(question, 4 + k as usize) as usize;
-    let from = start.min(question.len());
-    front(&question[from..], end.saturating_sub(start))
+    let to = end.min(question.len());
+    let from = start.min(to);
+    &question[from..to]
 }
