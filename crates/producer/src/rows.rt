@@ -34,10 +34,9 @@ fn join_rows(marks: &mut [u32], others: &[u32], pivot: usize)
     requires among { pivot < length marks.old }
     ensures { (x : ℕ) → x < length marks.old → slice_index marks.new x ≡ (if nat_eq x pivot then 0 else (if nat_eq (slice_index others.now x) 0 then slice_index marks.old x else 1)) }
 {
+    // Each mark is written, also one that stays as it is: a loop without a branch goes over several marks at once.
     for (x, mark) in marks.iter_mut().enumerate() {
-        if others[x] != 0 {
-            *mark = 1;
-        }
+        *mark = if others[x] == 0 { *mark } else { 1 };
     }
     marks[pivot] = 0;
 }
