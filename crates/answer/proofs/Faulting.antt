@@ -140,24 +140,26 @@ module _ (q : List ℕ) (α : ℕ → Bool) where
       (λ ne. cond-true _ _ _ (before k (omega arith)) ∙ found_lowest (k + 1) n i (omega arith) (omega arith) before here)
       (cases_eq i k)
 
--- what a search for the lowest false clause gives, where each place of the lists counts
+-- whether a clause is true
 abbrev pub truth : List ℕ → List ℕ → ℕ → Bool
-truth q numbers k = holds (bits_of (counted numbers)) (counted (clause_of q k))
+truth q numbers k = holds (bits_of numbers) (clause_of q k)
 
-module _ (q numbers : List ℕ) (few : length q ≤ 2 ^ 28) (short : length numbers ≤ 2 ^ 28) where
-  truth_is : (k : ℕ) → holds (bits_of numbers) (clause_of q k) ≡ truth q numbers k
-  truth_is k =
-      ap (λ v. holds (bits_of v) (clause_of q k)) (sym (counted_all numbers short))
-      ∙ ap (holds (bits_of (counted numbers))) (sym (counted_all (clause_of q k) (omega (arith, span_few q (3 + k)))))
+-- the same of what counts of the lists, where each place does
+pub truth_is : (q numbers : List ℕ) (k : ℕ) → length q ≤ 2 ^ 28 → length numbers ≤ 2 ^ 28 → holds (bits_of (counted numbers)) (counted (clause_of (counted q) k)) ≡ truth q numbers k
+truth_is q numbers k few short =
+    ap (λ v. holds (bits_of v) (counted (clause_of (counted q) k))) (counted_all numbers short)
+    ∙ ap (λ u. holds (bits_of numbers) (counted (clause_of u k))) (counted_all q few)
+    ∙ ap (holds (bits_of numbers)) (counted_all (clause_of q k) (omega (arith, span_few q (3 + k))))
 
-  pub lowest_is : (n : ℕ) (r : Option ℕ) →
-      MatchOption r
-      ((k : ℕ) → 0 ≤ k → k < n → truth q numbers k ≡ true)
-      (λ i. (0 ≤ i) × (i < n) × (truth q numbers i ≡ false) × ((k : ℕ) → 0 ≤ k → k < i → truth q numbers k ≡ true)) →
-      r ≡ lowest_false q (bits_of numbers) 0 n
-  lowest_is n None h = sym (all_to q (bits_of numbers) 0 n (λ j l. truth_is j ∙ h j (omega arith) (omega arith)))
-  lowest_is n (Some i) h =
-      sym (found_lowest q (bits_of numbers) 0 n i (omega arith) (omega (arith, h.1)) (λ j l. truth_is j ∙ h.3 j (omega arith) l) (truth_is i ∙ h.2))
+-- what a search for the lowest false clause gives
+pub lowest_is : (q numbers : List ℕ) (n : ℕ) (r : Option ℕ) →
+    MatchOption r
+    ((k : ℕ) → 0 ≤ k → k < n → truth q numbers k ≡ true)
+    (λ i. (0 ≤ i) × (i < n) × (truth q numbers i ≡ false) × ((k : ℕ) → 0 ≤ k → k < i → truth q numbers k ≡ true)) →
+    r ≡ lowest_false q (bits_of numbers) 0 n
+lowest_is q numbers n None h = sym (all_to q (bits_of numbers) 0 n (λ j l. h j (omega arith) (omega arith)))
+lowest_is q numbers n (Some i) h =
+    sym (found_lowest q (bits_of numbers) 0 n i (omega arith) (omega (arith, h.1)) (λ j l. h.3 j (omega arith) l) h.2)
 
 -- ---- an assignment's refusal
 module _ (q numbers : List ℕ) where

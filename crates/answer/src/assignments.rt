@@ -1,14 +1,14 @@
 // Assignments that satisfy a question: a number for each variable, 0 or 1.
 ghost use Rattle.std.specs.Prelude.{◌≡◌, ◌^◌, ◌≤◌, length, is_ok, Decides};
 ghost use Rattle.lists.specs.Counted.{counted};
-ghost use Rattle.signal.specs.Truth.{bits_of};
-ghost use Rattle.question.specs.Questions.{clause_count};
+ghost use Rattle.signal.specs.Truth.{bits_of, holds};
+ghost use Rattle.question.specs.Questions.{clause_count, clause_of};
 ghost use Rattle.answer.specs.Assignments.{first_non_bit, lowest_false, unless_found, judged, Satisfying};
 ghost use Rattle.answer.specs.Reasons.{AssignmentReasoned};
 
-use crate::lines::{clause_count, part};
+use crate::lines::clause_count;
 use lists::counted;
-use question::read::number_at;
+use question::read::{clause, number_at};
 use sheet::fault::{Cause, Fault, Layer};
 use signal::clauses::satisfies_clause;
 
@@ -20,15 +20,21 @@ fn first_non_bit(assignment: &[u32]) -> Option<u32>
     Some(variable as u32)
 }
 
+// Whether clause `k` is true.
+fn is_true(question: &[u32], assignment: &[u32], k: u32) -> bool
+    requires few { length question.now ≤ 2 ^ 28 }
+    requires short { length assignment.now ≤ 2 ^ 28 }
+    ensures { result ≡ holds (bits_of assignment.now) (clause_of question.now k) }
+{
+    satisfies_clause(assignment, clause(question, k))
+}
+
 fn lowest_false_clause(question: &[u32], assignment: &[u32]) -> Option<u32>
     requires few { length question.now ≤ 2 ^ 28 }
     requires short { length assignment.now ≤ 2 ^ 28 }
     ensures { result ≡ lowest_false question.now (bits_of assignment.now) 0 (clause_count question.now) }
 {
-    (0..clause_count(question)).find(|k| !satisfies_clause(
-        assignment,
-        part(question, 3 + *k as usize),
-    ))
+    (0..clause_count(question)).find(|k| !is_true(question, assignment, *k))
 }
 
 // A refusal where something was found.
