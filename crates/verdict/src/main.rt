@@ -1,6 +1,8 @@
 // Reads a sheet on standard input, checks it with the splitting solver, and says how the check ended, or why it was refused.
 #![tactic(auto)]
 
+ghost use Rattle.std.specs.Prelude.{◌≤◌, length, IfOk};
+
 use checker::Refused;
 use checker::report::Report;
 use driver::drive::{Stopped, run};
@@ -9,10 +11,11 @@ use producer::split::Splitting;
 use sheet::fault::Fault;
 use sheet::read::read;
 use std::alloc::{AllocError, Global};
+use std::io;
 use std::io::Read;
 
 // One byte more than a sheet may have, so that a longer text is seen to be too long.
-const TEXT_BYTES: u64 = 4097;
+const TEXT_BYTES: usize = 4097;
 
 // How many numbers each list holds.
 const PLACES: usize = 16_384;
@@ -22,6 +25,23 @@ const STEP_LIMIT: u32 = 4;
 
 // How many answers may be shown or taken.
 const TURN_LIMIT: u32 = 1000;
+
+// Fills `text` from standard input, and answers how many bytes came. It asks for all at once, so that a text that comes as one
+// message is whole, and needs no heap.
+fn read_input(rt: &HostRuntime, text: &mut [u8]) -> io::Result<usize>
+    ensures fits { IfOk result (λ n. n ≤ length text.old) }
+{
+    let mut input = rt.stdin();
+    let mut len = 0;
+    while len < text.len() {
+        let count = input.read(&mut text[len..])?;
+        if count == 0 {
+            break;
+        }
+        len += count;
+    }
+    Ok(len)
+}
 
 // The lists that a check works on, and the run that is read off.
 #[derive(Drop)]
@@ -85,9 +105,9 @@ fn verdict_on(heap: Global, text: &[u8]) -> Result<String, AllocError> {
 }
 
 fn main(rt: HostRuntime) -> anyhow::Result<()> {
-    let mut text = Vec::new(rt.alloc());
-    rt.stdin().take(TEXT_BYTES).read_to_end(&mut text)?;
-    let said = verdict_on(rt.alloc(), &text)?;
+    let mut text = [0; TEXT_BYTES];
+    let len = read_input(&rt, &mut text)?;
+    let said = verdict_on(rt.alloc(), &text[..len])?;
     print!(rt; "{said}")?;
     Ok(())
 }
