@@ -15,7 +15,7 @@ use Rattle.checker.specs.declared.Lack.TheVariants.{Formula}
 use Rattle.checker.specs.declared.report.Report.{Report}
 use Rattle.checker.specs.declared.report.Verdict.{Verdict}
 use Rattle.checker.specs.declared.report.Verdict.TheVariants.{Safe, Run, Undecided, Spent, Short}
-use Rattle.driver.specs.Texts.{numbers_text, line_text, frame_text, frames_text, run_text, ended_text, fault_text, as_told, TellsReport, TellsFault}
+use Rattle.driver.specs.Texts.{numbers_text, line_text, frame_text, frames_text, run_text, ended_text, refusal_line, fault_text, as_told, TellsReport, TellsFault}
 
 -- ---- the bytes of a number lie above the space and the line's end
 abbrev High : List ℕ → Type 0
@@ -195,24 +195,30 @@ same_counts r q l run l' run' lb lt lb' lt' e =
     (append_cancel_left w (counts r ++ run_part r l run) (counts q ++ run_part q l' run')
     (sym (append_assoc w (counts r) (run_part r l run)) ∙ e ∙ append_assoc w' (counts q) (run_part q l' run') ∙ ap (λ (ys : List ℕ). ys ++ (counts q ++ run_part q l' run')) words))
 
-apart : (r : Report) (l run : List ℕ) (f : Fault) → ended_text r l run ≡ fault_text f → ⊥
-apart r l run f e = none_says_no r.verdict (sym (second r.verdict (counts r) (run_part r l run)) ∙ ap (λ (t : List ℕ). get_or t 1 0) e)
+apart : (r : Report) (l run line : List ℕ) → get_or line 1 0 ≡ 111 → ended_text r l run ≡ line → ⊥
+apart r l run line is e = none_says_no r.verdict (sym (second r.verdict (counts r) (run_part r l run)) ∙ ap (λ (t : List ℕ). get_or t 1 0) e ∙ is)
 
 -- ---- all of it, of a text that was made
 pub tells_report : (r : Report) (l run text : List ℕ) → r.bound < 2 ^ 32 → r.turns < 2 ^ 32 → text ≡ ended_text r l run → TellsReport r text
 tells_report r l run text lb lt is = record {
   verdict = λ q l' run' e. same_verdict r q l run l' run' (sym is ∙ e);
   counts = λ q l' run' lb' lt' e. same_counts r q l run l' run' lb lt lb' lt' (sym is ∙ e);
-  no_refusal = λ f e. apart r l run f (sym is ∙ e);
+  no_refusal = λ f e. apart r l run (fault_text f) refl (sym is ∙ e);
+  no_number = λ n p e. apart r l run (refusal_line n p) refl (sym is ∙ e);
 }
 
 -- the words of a refusal, and the line's end, are those of a line
-as_line : (f : Fault) → fault_text f ≡ line_text (codes "no") (cause_number f.cause ∷ f.place ∷ [])
+pub as_line : (f : Fault) → fault_text f ≡ refusal_line (cause_number f.cause) f.place
 as_line f = ap (λ (r : List ℕ). 110 ∷ 111 ∷ 32 ∷ r) (append_assoc (decimal (cause_number f.cause)) (32 ∷ decimal f.place) (10 ∷ []))
+
+told_number : (f : Fault) (text : List ℕ) → f.place < 2 ^ 32 → text ≡ fault_text f → (n p : ℕ) → n < 2 ^ 32 → p < 2 ^ 32 → text ≡ refusal_line n p
+    → (cause_number f.cause ≡ n) × (f.place ≡ p)
+told_number f text lp is n p ln lp' e = two_numbers (cause_number f.cause) f.place n p [] [] (number_small f.cause) lp ln lp'
+    (ap (λ (ys : List ℕ). drop 2 ys ++ []) (sym (as_line f) ∙ sym is ∙ e))
 
 pub tells_fault : (f : Fault) (text : List ℕ) → f.place < 2 ^ 32 → text ≡ fault_text f → TellsFault f text
 tells_fault f text lp is = record {
-  numbers = λ g lp' e. two_numbers (cause_number f.cause) f.place (cause_number g.cause) g.place [] [] (number_small f.cause) lp (number_small g.cause) lp'
-      (ap (λ (ys : List ℕ). drop 2 ys ++ []) (sym (as_line f) ∙ sym is ∙ e ∙ as_line g));
-  no_verdict = λ r l run e. apart r l run f (sym e ∙ is);
+  numbers = λ g lp' e. told_number f text lp is (cause_number g.cause) g.place (number_small g.cause) lp' (e ∙ as_line g);
+  any_number = told_number f text lp is;
+  no_verdict = λ r l run e. apart r l run (fault_text f) refl (sym e ∙ is);
 }

@@ -45,6 +45,10 @@ run_text (Short which) latches inputs xs = []
 abbrev pub ended_text : Report → List ℕ → List ℕ → List ℕ
 ended_text r l run = report_text r ++ run_text r.verdict (latch_count (counted l)) (input_count (counted l)) (counted run)
 
+-- the line of a refusal with any number, also one that no check has
+abbrev pub refusal_line : ℕ → ℕ → List ℕ
+refusal_line n p = line_text (codes "no") (n ∷ p ∷ [])
+
 abbrev pub fault_text : Fault → List ℕ
 fault_text f = fault_words f ++ (10 ∷ [])
 
@@ -62,10 +66,12 @@ pub record TellsReport (r : Report) (text : List ℕ) : Type 0 where
   pub verdict : (q : Report) (l run : List ℕ) → text ≡ ended_text q l run → as_told r.verdict ≡ as_told q.verdict
   pub counts : (q : Report) (l run : List ℕ) → q.bound < 2 ^ 32 → q.turns < 2 ^ 32 → text ≡ ended_text q l run → (r.bound ≡ q.bound) × (r.turns ≡ q.turns)
   pub no_refusal : (f : Fault) → text ≢ fault_text f
+  pub no_number : (n p : ℕ) → text ≢ refusal_line n p
 
 -- no other number or place has this text, and no verdict
 pub record TellsFault (f : Fault) (text : List ℕ) : Type 0 where
   pub numbers : (g : Fault) → g.place < 2 ^ 32 → text ≡ fault_text g → (cause_number f.cause ≡ cause_number g.cause) × (f.place ≡ g.place)
+  pub any_number : (n p : ℕ) → n < 2 ^ 32 → p < 2 ^ 32 → text ≡ refusal_line n p → (cause_number f.cause ≡ n) × (f.place ≡ p)
   pub no_verdict : (r : Report) (l run : List ℕ) → text ≢ ended_text r l run
 
 -- ---- what is shown of a run

@@ -91,5 +91,5 @@ pub fn fault_text(heap: Global, fault: Fault) -> Result<String, AllocError>
     ensures says_exactly_this { IfOk result (λ s. string_bytes s ≡ fault_text fault) }
     ensures tells_the_fault { IfOk result (λ s. TellsFault fault (string_bytes s)) }
 {
-    format!(in heap; "{fault}\n")
+    format!(in heap; "no {} {}\n", fault.number(), fault.place)
 }
