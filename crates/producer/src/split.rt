@@ -213,12 +213,15 @@ fn decide(question: &[u32], answer: &mut [u32], work: &mut [u32]) -> Reply
 }
 
 // What the procedure does with questions.
-pub fn splitting_is_honest()
+pub fn splitting_is_honest() -> bool
+    ensures says_so { result ≡ true }
     ensures its_replies_are_true { Honest }
     ensures it_makes_few_steps { FewSteps }
     ensures a_branch_ends_at_the_lowest_false_clause { EndsAtOnce }
     ensures on_questions_it_is_the_plain_rule { ByTheRule }
-{}
+{
+    Splitting::is_honest()
+}
 
 // Answers every question for which there is room.
 #[derive(Clone, Copy)]
