@@ -1,5 +1,5 @@
 -- What a run list hands over: the frames of the assignment. Assumes nothing.
-use Rattle.std.proofs.Common.{◌≡◌, ℕ, zero, suc, ◌+◌, ◌*◌, not, eqb, ◌⊎◌, List, [], ◌∷◌, ◌++◌, map, get_or, sym, refl, ap, ◌∙◌, inl, ⊎_elim, arith}
+use Rattle.std.proofs.Common.{◌≡◌, ℕ, zero, suc, ◌+◌, ◌*◌, not, eqb, ◌⊎◌, List, [], ◌∷◌, ◌++◌, map, length, get_or, sym, refl, ap, ◌∙◌, inl, ⊎_elim, arith}
 use Rattle.std.specs.List.{range_with_len, AllByRecursion}
 use Rattle.std.proofs.lemmas.List.{append-nil}
 use Rattle.lists.specs.Stretch.{stretch}
@@ -8,7 +8,9 @@ use Rattle.sheet.specs.Sheets.{Sheet}
 use Rattle.machine.specs.Runs.{Frame}
 use Rattle.formula.specs.Formulas.{width}
 use Rattle.question.specs.Meaning.{frame_at}
-use Rattle.checker.specs.Reports.{bit_number, frame_written, run_written, numbers_from, frame_numbers, run_numbers}
+use Rattle.question.proofs.Counts.{stretch_length}
+use Rattle.checker.specs.Reports.{bit_number, frame_written, run_written, numbers_from, frame_numbers, run_numbers, run_size}
+use Rattle.checker.proofs.Tracing.{length_frame}
 
 -- ---- the numbers of a run are its bits
 abbrev IsBit : ℕ → Type 0
@@ -45,3 +47,5 @@ module _ (s : Sheet) (xs : List ℕ) (bits : AllByRecursion (λ x. (x ≡ 0) ⊎
   run_is_written m = let more : m + 1 ≡ suc m = omega arith in ap (λ (n : ℕ). stretch (frame_numbers s xs) 0 n) more ∙ run_from m 0
 
 -- how many they are, whatever the numbers
+pub run_length : (s : Sheet) (xs : List ℕ) (m : ℕ) → length (run_numbers s xs m) ≡ run_size s m
+run_length s xs m = stretch_length (frame_numbers s xs) (s.latches + s.inputs) (length_frame s xs) (m + 1) 0

@@ -13,12 +13,20 @@ use Rattle.sheet.specs.declared.fault.Layer.TheVariants.{ReadOff}
 use Rattle.machine.specs.Runs.{Frame}
 use Rattle.formula.specs.Formulas.{width}
 use Rattle.formula.specs.Framing.{in_frame}
+use Rattle.checker.specs.declared.Lack.{Lack}
+use Rattle.checker.specs.declared.Lack.TheVariants.{Formula, Question, LineValues}
 use Rattle.checker.specs.declared.End.{End}
 use Rattle.checker.specs.declared.End.TheVariants.{Safe, Run, Undecided, Spent, Short}
 use Rattle.checker.specs.declared.Ended.{Ended}
 use Rattle.checker.specs.declared.report.Verdict.{Verdict}
 use Rattle.checker.specs.declared.report.Verdict.TheVariants.{Safe as is-safe, Run as is-run, Undecided as is-undecided, Spent as is-spent, Short as is-short}
 use Rattle.checker.specs.declared.report.Report.{Report}
+
+-- the number by which a list that was too short is named
+abbrev pub lack_number : Lack → ℕ
+lack_number Formula = 1
+lack_number Question = 2
+lack_number LineValues = 3
 
 -- ---- a run as numbers
 abbrev pub bit_number : Bool → ℕ

@@ -1,18 +1,19 @@
 -- At plain bits a step is the machine's own. Assumes nothing.
-use Rattle.std.proofs.Common.{◌≡◌, ℕ, Bool, true, false, cond, not, ◌&&◌, List, length, get_or, IfOk, Result, sym, refl, subst, ⊎_elim, arith}
+use Rattle.std.proofs.Common.{◌≡◌, ℕ, ◌<◌, Bool, true, false, cond, not, ◌&&◌, List, length, get_or, IfOk, Result, sym, refl, subst, ⊎_elim, arith}
 use Rattle.std.proofs.lemmas.List.{get_or_default}
 use Rattle.std.proofs.lemmas.Bool.{cases_Bool, cases_eq, not-true}
 use Rattle.lists.specs.Counted.{counted, on_counted}
 use Rattle.sheet.specs.Render.{well_formed}
-use Rattle.sheet.specs.Sheets.{Sheet, Legal, sheet_of, input_count, latch_count}
+use Rattle.sheet.specs.Sheets.{Sheet, Legal, sheet_of, input_count, latch_count, node_count}
 use Rattle.sheet.specs.declared.fault.Fault.{Fault}
 use Rattle.sheet.proofs.Legality.{well_formed_legal}
 use Rattle.signal.specs.Kinds.{bit_ops, may_bit}
 use Rattle.signal.specs.Sets.{exactly, nots, ands}
 use Rattle.signal.specs.Sound.{Sound}
 use Rattle.signal.proofs.Cover.{exactly_self}
-use Rattle.machine.specs.Simulate.{step_signals, simulated, MayBe, CoversStep, IsStep}
-use Rattle.machine.proofs.Covered.{step_covers}
+use Rattle.machine.specs.Simulate.{node_signals, step_signals, simulated, MayBe, CoversStep, IsStep}
+use Rattle.machine.specs.Values.{values}
+use Rattle.machine.proofs.Covered.{nodes_length, nodes_cover, step_covers}
 use Rattle.machine.proofs.Refusals.{not_legal, not_a_state, not_inputs, stepped_by}
 
 exactly_same : (a b : Bool) → exactly a b ≡ true → a ≡ b
@@ -64,6 +65,12 @@ plain_step s state inputs r next wide many covered =
     }
 
 module _ (l : List ℕ) (legal : Legal l) (inputs state : List Bool) (many : length inputs ≡ input_count l) (wide : length state ≡ latch_count l) where
+  -- the bits of the nodes are their values
+  pub bits_are_values : (j : ℕ) → j < node_count l → get_or (node_signals bit_ops l inputs state) j false ≡ values (sheet_of l) (bit_at state) (bit_at inputs) j
+  bits_are_values j h =
+      exactly_same _ _ (nodes_cover may_bit 0 bits_sound l legal inputs state many wide (bit_at state) (bit_at inputs) (bits_may state) (bits_may inputs) j false
+      (omega (arith, nodes_length may_bit 0 bits_sound l legal inputs state many wide)))
+
   pub bits_step : IsStep (sheet_of l) state inputs (step_signals bit_ops l inputs state).0 (step_signals bit_ops l inputs state).1
   bits_step =
       plain_step (sheet_of l) state inputs _ _ wide many

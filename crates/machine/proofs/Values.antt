@@ -1,7 +1,8 @@
 -- The values of a sheet's nodes are the only ones that fit its gates. Assumes nothing.
-use Rattle.std.proofs.Common.{◌≡◌, ℕ, ◌-◌, ◌/◌, ◌<◌, ◌≤◌, Bool, false, List, sym, refl, ap, ◌∙◌, ⊎_elim, arith}
+use Rattle.std.proofs.Common.{◌≡◌, ℕ, ◌-◌, ◌/◌, ◌<◌, ◌≤◌, Bool, false, ◌&&◌, List, sym, refl, ap, ◌∙◌, ⊎_elim, arith}
 use Rattle.std.proofs.lemmas.Bool.{cond-true, cond-false, eq-eqb, ne_eqb, le-leb, lt-leb, cases_lt, cases_eq}
 use Rattle.sheet.specs.Sheets.{Sheet, Legal, sheet_of}
+use Rattle.signal.specs.Truth.{lit}
 use Rattle.machine.specs.Fits.{input_at, latch_at, nodes, Settled, ValuesFit}
 use Rattle.machine.specs.Values.{fed, first_gate, gate_at, values}
 use Rattle.machine.proofs.Chains.{Climbs, chain_below, chain_gate, chain_only}
@@ -81,3 +82,11 @@ module _ (s : Sheet) (c x : ℕ → Bool) where
 
 pub values_fit : (s : Sheet) → Ascends s → ValuesFit s
 values_fit s up = record { fit = λ c x. settled s c x up; alone = λ c x. only_settled s c x up }
+
+-- values that fit the gates are those of the bits that they have at the latches and the inputs
+pub agree : (s : Sheet) → Ascends s → (v : ℕ → Bool) → v 0 ≡ false
+    → ((g : ℕ) → g < s.gates → v (gate_at s g) ≡ (lit v (s.left g) && lit v (s.right g)))
+    → (j : ℕ) → j < nodes s → v j ≡ values s (λ i. v (latch_at s i)) (λ i. v (input_at s i)) j
+agree s up v none each =
+    only_settled s (λ i. v (latch_at s i)) (λ i. v (input_at s i)) up v
+    (record { constant = none; inputs = λ i h. refl; latches = λ i h. refl; gates = each })
