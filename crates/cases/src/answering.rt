@@ -607,14 +607,10 @@ const BEFORE_RECORDED: [Screened; 4] = [
     },
 ];
 
-// Whether a pair of a row's recording and a second producer gives the reply and both lists of the row.
-fn screens_before<P: Producer>(row: &Screened, second: &mut P) -> bool {
+// Whether a pair that begins with a row's recording gives the reply and both lists of the row.
+fn screens_so<P: Producer>(row: &Screened, pair: &mut Pair<Recorded<'_>, P>) -> bool {
     let mut answer = [9; 6];
     let mut work = [9; 36];
-    let mut pair = Pair {
-        first: Recorded::new(row.tape),
-        second,
-    };
     let reply = pair.answer(row.question, &mut answer, &mut work);
     let worked = row
         .work
@@ -625,13 +621,20 @@ fn screens_before<P: Producer>(row: &Screened, second: &mut P) -> bool {
 #[test]
 fn pairs(rt: HostRuntime) {
     for (i, row) in BEFORE_SPLITTING.iter().enumerate() {
-        assert!(rt; screens_before(row, &mut Splitting), "row {i}");
+        let mut pair = Pair {
+            first: Recorded::new(row.tape),
+            second: Splitting,
+        };
+        assert!(rt; screens_so(row, &mut pair), "row {i}");
     }
     for (i, row) in BEFORE_RECORDED.iter().enumerate() {
-        let mut second = Recorded::new(&SECOND);
-        assert!(rt; screens_before(row, &mut second), "row {i}, recorded");
+        let mut pair = Pair {
+            first: Recorded::new(row.tape),
+            second: Recorded::new(&SECOND),
+        };
+        assert!(rt; screens_so(row, &mut pair), "row {i}, recorded");
         // The second was asked only where the first's answer is another.
-        let asked = second.position() == 1;
+        let asked = pair.second.position() == 1;
         assert_eq!(rt; asked, row.answer != [1, 0].as_slice(), "row {i}, recorded");
     }
     assert!(rt; Pair::<Zeros, Splitting>::is_honest() && !Pair::<Splitting, Zeros>::is_honest());
