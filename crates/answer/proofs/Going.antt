@@ -23,10 +23,6 @@ of_end : (r : Result Progress Fault) (end : ℕ) → Ok end ≡ map_ok (λ (more
 of_end (Ok more) end h = (more, refl, cc)
 of_end (Err f) end h = let z : ◌≡◌ {A = ℕ} 0 1 = cc in absurd (omega arith)
 
-pub same_err : (r : Result Progress Fault) (f : Fault) → Err f ≡ map_ok (λ (more : Progress). more.end) r → Err f ≡ r
-same_err (Ok more) f h = let z : ◌≡◌ {A = ℕ} 0 1 = cc in absurd (omega arith)
-same_err (Err g) f h = cc
-
 module _ (q w : List ℕ) (s : Step) (at : Progress) where
   abbrev pub end_after : ℕ
   end_after = at.end + length (made_by q w s at.end)

@@ -3,7 +3,6 @@ ghost use Rattle.std.specs.Prelude.{◌≡◌, ℕ, ◌+◌, ◌^◌, ◌<◌, �
 ghost use Rattle.sheet.specs.declared.fault.Cause.TheVariants.{Clash};
 ghost use Rattle.std.proofs.lemmas.List.Edits.{sets};
 ghost use Rattle.lists.specs.Counted.{counted, on_counted};
-ghost use Rattle.sheet.specs.Faults.{map_ok};
 ghost use Rattle.question.specs.Questions.{span, IsQuestion, Satisfiable};
 ghost use Rattle.answer.specs.Derivations.{Derives, Refutes, CancelsTwo};
 ghost use Rattle.answer.specs.Layout.{Lays};
@@ -35,16 +34,16 @@ fn join_lines(question: &[u32], work: &mut [u32], s: Step, at: Progress) -> Opti
     Some(at.end + count)
 }
 
-// Carries out the next step: writes its clause, and the place where that ends, which it answers.
+// Carries out the next step: writes its clause, and the place where that ends.
 fn take_step(
     question: &[u32],
     refutation: &[u32],
     work: &mut [u32],
     at: Progress,
-) -> Result<usize, Fault>
+) -> Result<Progress, Fault>
     requires behind { at.step + 1 < at.end }
     requires few { length work.old ≤ 2 ^ 28 }
-    ensures goes_on { result ≡ map_ok (λ more. more.end) (advanced question.now work.old (step_of refutation.now at.step) at) }
+    ensures goes_on { result ≡ advanced question.now work.old (step_of refutation.now at.step) at }
     ensures writes { IfOk result (λ more. work.new ≡ noted question.now work.old (step_of refutation.now at.step) at) }
 {
     let s = read_step(refutation, at.step);
@@ -52,7 +51,10 @@ fn take_step(
         return Err(blame(question, work, s, at));
     };
     work[at.step as usize + 1] = end as u32;
-    Ok(end)
+    Ok(Progress {
+        step: at.step + 1,
+        end,
+    })
 }
 
 // Carries out all steps, into a working list that is zero but for its first place.
@@ -69,7 +71,7 @@ fn take_steps(
 {
     let mut end = steps as usize + 1;
     for step in 0..steps {
-        end = take_step(question, refutation, work, Progress { step, end })?;
+        end = take_step(question, refutation, work, Progress { step, end })?.end;
     }
     let last = steps - 1;
     if part(work, last as usize).is_empty() {
