@@ -24,10 +24,11 @@ fn join_lines(question: &[u32], work: &mut [u32], s: Step, at: Progress) -> Opti
     ensures writes { is_some result ≡ true → work.new ≡ sets work.old at.end (made_by question.now work.old s at.end) }
     ensures keeps_the_front { take at.end work.new ≡ take at.end work.old }
 {
+    // The list is cut before all else: the compiler then reads the count of the question's clauses once for the rest.
+    let (done, free) = work.split_at_mut_checked(at.end)?;
     if !come_before(question, at.step, s) {
         return None;
     }
-    let (done, free) = work.split_at_mut_checked(at.end)?;
     let first = clause_at(question, done, s.first);
     let second = clause_at(question, done, s.second);
     let count = join(first, second, s.pivot, free)?;
