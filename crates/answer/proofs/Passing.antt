@@ -1,9 +1,8 @@
 -- A pass over two clauses, from literal to literal. Assumes nothing.
 use Rattle.std.proofs.Common.{◌≡◌, ℕ, ◌+◌, ◌-◌, ◌*◌, ◌<◌, ◌≤◌, min, Bool, true, false, cond, eqb, leb, ◌&&◌, ◌||◌, ◌⊎◌, List, [], ◌∷◌, ◌++◌, length, get_or, take, drop, Some, None, Option, is_some, sym, refl, ap, ◌∙◌, subst, ⊎_elim, arith, length-drop}
-use Rattle.std.specs.Int.{from_bool}
 use Rattle.std.specs.Bool.{then_some}
 use Rattle.std.proofs.lemmas.Bool.{false≢true, cond-true, cond-false, lt-ltb, le-ltb, le-leb, lt-leb, leb-true, cases_lt}
-use Rattle.std.proofs.lemmas.List.{append-nil, take_all, drop_more, get_or-drop}
+use Rattle.std.proofs.lemmas.List.{append-nil, take_all}
 use Rattle.answer.specs.declared.passes.Tally.{Tally}
 use Rattle.answer.specs.Joint.{union, has}
 use Rattle.answer.specs.Passes.{due, filled, Took, Taken}
@@ -94,41 +93,26 @@ module _ (t t' : Tally) (w w' v : List ℕ) (n : Option ℕ) where
         λ s. h.1 s ∙ sym (took.writes u) ∙ ap (filled t w) (sym next),
       )
 
-pub one_more : (b : Bool) (k i n : ℕ) → k ≡ from_bool b → i < n → i + k ≤ n
-one_more true k i n e h = omega (arith, e, h)
-one_more false k i n e h = omega (arith, e, h)
+  turned_first : (f s f' s' : List ℕ) → 0 < length f → 0 < length s →
+      f' ≡ cond (leb (get_or f 0 0) (get_or s 0 0)) (drop 1 f) f → s' ≡ cond (leb (get_or s 0 0) (get_or f 0 0)) (drop 1 s) s →
+      (m : ℕ) → m ≡ min (get_or f 0 0) (get_or s 0 0) → Took t t' (leb (get_or f 0 0) (get_or s 0 0)) (leb (get_or s 0 0) (get_or f 0 0)) w w' (m ∷ []) →
+      Ends t' w' v f' s' n → Ends t w v f s n
+  turned_first [] s f' s' some other a b m is took h = absurd (omega (arith, some))
+  turned_first (x ∷ xs) [] f' s' some other a b m is took h = absurd (omega (arith, other))
+  turned_first (x ∷ xs) (y ∷ ys) f' s' some other a b m is took h = turned x y xs ys (subst (λ z. Took t t' (leb x y) (leb y x) w w' (z ∷ [])) is took) (subst (λ k. Ends t' w' v k (cond (leb y x) ys (y ∷ ys)) n) a (subst (λ k. Ends t' w' v f' k n) b h))
 
--- the rest of a list from a place
-pub went : (f : List ℕ) (i : ℕ) → take (length f - i) (drop i f) ≡ drop i f
-went f i = take_all (length f - i) (drop i f) (simp length-drop (omega arith))
-
-pub rest_ends : (t : Tally) (w v f s : List ℕ) (n : Option ℕ) (i j : ℕ) → Ends t w v (take (length f - i) (drop i f)) (take (length s - j) (drop j s)) n → Ends t w v (drop i f) (drop j s) n
-rest_ends t w v f s n i j h = subst (λ z. Ends t w v z (drop j s) n) (went f i) (subst (λ z. Ends t w v (take (length f - i) (drop i f)) z n) (went s j) h)
-
--- a list goes on behind the place of a literal, if that is taken
-gone : (b : Bool) (f : List ℕ) (i : ℕ) → i < length f → drop (i + from_bool b) f ≡ cond b (drop (i + 1) f) (get_or f i 0 ∷ drop (i + 1) f)
-gone true f i h = refl
-gone false f i h = let e : i + 0 ≡ i = omega arith in ap (λ k. drop k f) e ∙ drop_more f i 0 h
-
-module _ (t t' : Tally) (w w' v : List ℕ) (n : Option ℕ) (f s : List ℕ) (i j : ℕ) (some : i < length f) (other : j < length s) where
-  -- the lower of the literals at two places is taken
-  pub turn : (k l m : ℕ) → k ≡ from_bool (leb (get_or f i 0) (get_or s j 0)) → l ≡ from_bool (leb (get_or s j 0) (get_or f i 0)) → m ≡ min (get_or f i 0) (get_or s j 0) →
-      Took t t' (leb (get_or f i 0) (get_or s j 0)) (leb (get_or s j 0) (get_or f i 0)) w w' (m ∷ []) →
-      Ends t' w' v (drop (i + k) f) (drop (j + l) s) n → Ends t w v (drop i f) (drop j s) n
-  turn k l m a b is took h =
-      let x = get_or f i 0 in
-      let y = get_or s j 0 in
-      let xs = drop (i + 1) f in
-      let ys = drop (j + 1) s in
-      let p : drop (i + k) f ≡ cond (leb x y) xs (x ∷ xs) = ap (λ z. drop (i + z) f) a ∙ gone (leb x y) f i some in
-      let q : drop (j + l) s ≡ cond (leb y x) ys (y ∷ ys) = ap (λ z. drop (j + z) s) b ∙ gone (leb y x) s j other in
-      let here : Ends t w v (x ∷ xs) (y ∷ ys) n = turned t t' w w' v n x y xs ys (subst (λ z. Took t t' (leb x y) (leb y x) w w' (z ∷ [])) is took)
-      (subst (λ z. Ends t' w' v z (cond (leb y x) ys (y ∷ ys)) n) p (subst (λ z. Ends t' w' v (drop (i + k) f) z n) q h)) in
-      subst (λ z. Ends t w v z (drop j s) n) (sym (drop_more f i 0 some)) (subst (λ z. Ends t w v (x ∷ xs) z n) (sym (drop_more s j 0 other)) here)
-
--- the literal at a place is the first of what is left from there
-pub first_at : (f : List ℕ) (i : ℕ) → get_or (drop i f) 0 0 ≡ get_or f i 0
-first_at f i = let e : i + 0 ≡ i = omega arith in get_or-drop i f 0 0 ∙ ap (λ k. get_or f k 0) e
+  -- the lower of the first literals is taken, from the first list if a, and from the second if b
+  pub turn : (a b : Bool) (f s f' s' : List ℕ) → 0 < length f → 0 < length s →
+      leb (get_or f 0 0) (get_or s 0 0) ≡ a → leb (get_or s 0 0) (get_or f 0 0) ≡ b →
+      f' ≡ cond a (drop 1 f) f → s' ≡ cond b (drop 1 s) s →
+      (m : ℕ) → m ≡ min (get_or f 0 0) (get_or s 0 0) → Took t t' a b w w' (m ∷ []) →
+      Ends t' w' v f' s' n → Ends t w v f s n
+  turn a b f s f' s' some other p q g h m is took =
+      turned_first f s f' s' some other
+      (g ∙ ap (λ k. cond k (drop 1 f) f) (sym p))
+      (h ∙ ap (λ k. cond k (drop 1 s) s) (sym q))
+      m is
+      (subst (λ k. Took t t' k (leb (get_or s 0 0) (get_or f 0 0)) w w' (m ∷ [])) (sym p) (subst (λ k. Took t t' a k w w' (m ∷ [])) (sym q) took))
 
 -- the lower of the first literals of two lists comes first in their union
 union_next : (f s : List ℕ) → 0 < length f → 0 < length s →
@@ -138,6 +122,10 @@ union_next : (f s : List ℕ) → 0 < length f → 0 < length s →
 union_next [] s some other = absurd (omega (arith, some))
 union_next (x ∷ xs) [] some other = absurd (omega (arith, other))
 union_next (x ∷ xs) (y ∷ ys) some other = union_turn x y xs ys
+
+-- the rest of a list from its second place
+pub went : (f f' : List ℕ) → f' ≡ take (length f - 1) (drop 1 f) → f' ≡ drop 1 f
+went f f' e = e ∙ take_all (length f - 1) (drop 1 f) (simp length-drop (omega arith))
 
 union_none : (xs : List ℕ) → union xs [] ≡ xs ++ []
 union_none [] = refl

@@ -60,7 +60,12 @@ impl Tally {
 }
 
 // Writes the resolvent of two clauses and answers how many literals it has; `None` where there is none, or no room.
-pub(crate) fn join(first: &[u32], second: &[u32], pivot: u32, free: &mut [u32]) -> Option<usize>
+pub(crate) fn join(
+    mut first: &[u32],
+    mut second: &[u32],
+    pivot: u32,
+    free: &mut [u32],
+) -> Option<usize>
     ensures says_how_many { result ≡ joined (length free.old) 0 first.now second.now pivot }
     ensures writes { is_some result ≡ true → free.new ≡ sets free.old 0 (joint first.now second.now pivot) }
 {
@@ -71,17 +76,20 @@ pub(crate) fn join(first: &[u32], second: &[u32], pivot: u32, free: &mut [u32]) 
         plain: false,
         negated: false,
     };
-    let mut i = 0;
-    let mut j = 0;
-    while i < first.len() && j < second.len() {
-        let x = first[i];
-        let y = second[j];
-        // Nobody can foretell which of the two is lower, so no branch hangs on it: the places move on by what is added.
-        tally = tally.keep(free, x.min(y), x <= y, y <= x)?;
-        i += usize::from(x <= y);
-        j += usize::from(y <= x);
+    while let ([x, xs @ ..], [y, ys @ ..]) = (first, second) {
+        if x < y {
+            tally = tally.keep(free, *x, true, false)?;
+            first = xs;
+        } else if y < x {
+            tally = tally.keep(free, *y, false, true)?;
+            second = ys;
+        } else {
+            tally = tally.keep(free, *x, true, true)?;
+            first = xs;
+            second = ys;
+        }
     }
-    tally = tally.append(free, &first[i..], true)?;
-    tally = tally.append(free, &second[j..], false)?;
+    tally = tally.append(free, first, true)?;
+    tally = tally.append(free, second, false)?;
     (tally.plain && tally.negated).then_some(tally.count)
 }
