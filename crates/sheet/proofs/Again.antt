@@ -8,7 +8,7 @@ use Rattle.sheet.specs.declared.line.Due.TheVariants.{OfLatch, OfGate}
 use Rattle.sheet.specs.Sheets.{most_literal, size_of}
 use Rattle.sheet.specs.Faults.{and_then, demand, given}
 use Rattle.sheet.specs.Parts.{up_to, spelled, spaced, former, further, latter}
-use Rattle.sheet.specs.Parse.{refusal, line_of, triples_if, parts_if, part_if, number_of, letter, in_range, ordered, read_contents, read_pair, read_pairs, read_bad, parse_rest, parse_lines, parse}
+use Rattle.sheet.specs.Parse.{refusal, line_if, line_of, triples_if, parts_if, part_if, number_of, letter, in_range, ordered, read_contents, read_pair, read_pairs, read_bad, parse_rest, parse_lines, parse}
 use Rattle.sheet.specs.Render.{digits, line_text, pairs_text, pairs_fit, all_zero, text_of, well_formed}
 use Rattle.sheet.proofs.Legality.{pair_fits, Fits, fits_all}
 use Rattle.sheet.proofs.Spelling.{spelled_inv}
@@ -29,10 +29,10 @@ up_to_found c (x ∷ t) h =
 line_of_inv : (p : ℕ) (t : List ℕ) (l : List ℕ × List ℕ) → line_of p t ≡ Ok l → t ≡ l.0 ++ (10 ∷ l.1)
 line_of_inv p t l h =
     let k = up_to 10 t in
-    let q = demand_inv (ltb k (length t)) (refusal LineNotEnded p) (Ok (take k t, drop (k + 1) t)) l h in
+    let q = some_cond (ltb k (length t)) l (take k t, drop (k + 1) t) (sym (given_inv (line_if t) (refusal LineNotEnded p) l h)) in
     up_to_found 10 t (ltb-true _ _ q.0)
     ∙ ap (λ j. take k t ++ (10 ∷ drop j t)) (sym (add-one k))
-    ∙ ap (λ (l : List ℕ × List ℕ). l.0 ++ (10 ∷ l.1)) (ok_same _ _ q.1)
+    ∙ ap (λ (l : List ℕ × List ℕ). l.0 ++ (10 ∷ l.1)) (sym q.1)
 
 -- what the parts of a line came from
 pub spaced_inv : (s : List ℕ) → 0 < length (spaced s) → s ≡ 32 ∷ spaced s

@@ -1,5 +1,5 @@
 -- Steps over the lines of a text. Assumes nothing.
-use Rattle.std.proofs.Common.{◌≡◌, ℕ, zero, suc, ◌+◌, ◌-◌, ◌<◌, ◌≤◌, true, ltb, List, [], ◌∷◌, ◌++◌, length, take, drop, set, replicate, Ok, Err, sym, ap, ◌∙◌, subst, arith}
+use Rattle.std.proofs.Common.{◌≡◌, ℕ, zero, suc, ◌+◌, ◌-◌, ◌<◌, ◌≤◌, true, ltb, List, [], ◌∷◌, ◌++◌, length, take, drop, set, replicate, Some, Ok, Err, sym, ap, ◌∙◌, subst, arith}
 use borrow.Rule.Slice.PartMut.{put_mid}
 use Rattle.std.proofs.lemmas.List.{take_rest, drop-replicate}
 use Rattle.std.proofs.lemmas.Bool.{cond-true, lt-ltb}
@@ -7,14 +7,14 @@ use Rattle.sheet.specs.declared.fault.Fault.{Fault}
 use Rattle.sheet.specs.declared.line.Due.{Due}
 use Rattle.sheet.specs.Faults.{and_then}
 use Rattle.sheet.specs.Parts.{up_to}
-use Rattle.sheet.specs.Parse.{line_of, read_pair, read_pairs}
+use Rattle.sheet.specs.Parse.{line_if, read_pair, read_pairs}
 
-pub line_cut : (p e : ℕ) (t : List ℕ) → e ≡ up_to 10 t → e < length t → Ok (take (e - 0) t, take (length t - (e + 1)) (drop (e + 1) t)) ≡ line_of p t
-line_cut p e t h l =
+pub line_cut : (e : ℕ) (t : List ℕ) → e ≡ up_to 10 t → e < length t → Some (take (e - 0) t, take (length t - (e + 1)) (drop (e + 1) t)) ≡ line_if t
+line_cut e t h l =
     let rest = take_rest t (e + 1) in
     let front : e - 0 ≡ e = omega arith in
     let ends : ltb (up_to 10 t) (length t) ≡ true = subst (λ n. ltb n (length t) ≡ true) h (lt-ltb e (length t) l) in
-    let is : line_of p t ≡ Ok (take (up_to 10 t) t, drop (up_to 10 t + 1) t) = cond-true _ _ _ ends in
+    let is : line_if t ≡ Some (take (up_to 10 t) t, drop (up_to 10 t + 1) t) = cond-true _ _ _ ends in
     cc
 
 -- one of n lines is read

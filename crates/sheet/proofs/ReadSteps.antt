@@ -5,7 +5,7 @@ use Rattle.std.proofs.lemmas.List.{append_assoc, append-nil, length-append, take
 use Rattle.std.proofs.lemmas.Bool.{cond-true, cond-false, le-ltb, eq-eqb, ne_eqb, cases_eq}
 use Rattle.sheet.specs.declared.fault.Cause.TheVariants.{LineNotEnded}
 use Rattle.sheet.specs.declared.fault.Fault.{Fault}
-use Rattle.sheet.specs.Faults.{and_then}
+use Rattle.sheet.specs.Faults.{and_then, given}
 use Rattle.sheet.specs.Parts.{up_to}
 use Rattle.sheet.specs.Parse.{refusal, line_of}
 use Rattle.sheet.specs.FirstLine.{first_lines}
@@ -144,7 +144,7 @@ Placed j (Err e) = e.place ≡ j
 module _ {V Y : Type 0} (j : ℕ) (one : List ℕ → Result V Fault) (go : V → List ℕ → Result Y Fault) where
   pub step_open : (t : List ℕ) → Free t → step j one go t ≡ Err (refusal LineNotEnded j)
   step_open t f =
-      ap (λ l. and_then l (λ l. and_then (one l.0) (λ v. go v l.1))) (cond-false _ _ _ (le-ltb (up_to 10 t) (length t) (omega arith)))
+      ap (λ l. and_then (given l (refusal LineNotEnded j)) (λ l. and_then (one l.0) (λ v. go v l.1))) (cond-false _ _ _ (le-ltb (up_to 10 t) (length t) (omega arith)))
 
   pub step_ended : (x r : List ℕ) → Free x → step j one go (x ++ (10 ∷ r)) ≡ and_then (one x) (λ v. go v r)
   step_ended x r f =

@@ -1,5 +1,5 @@
 -- The text of a list reads to that list. Assumes nothing.
-use Rattle.std.proofs.Common.{◌≡◌, ℕ, zero, suc, ◌+◌, ◌*◌, ◌<◌, ◌≤◌, true, ◌&&◌, ltb, leb, List, [], ◌∷◌, ◌++◌, length, get_or, take, drop, Some, Ok, Err, sym, refl, ap, ◌∙◌, subst, arith, take-add}
+use Rattle.std.proofs.Common.{◌≡◌, ℕ, zero, suc, ◌+◌, ◌*◌, ◌<◌, ◌≤◌, true, ◌&&◌, ltb, leb, List, [], ◌∷◌, ◌++◌, length, get_or, take, drop, Some, None, Ok, sym, refl, ap, ◌∙◌, subst, arith, take-add}
 use Rattle.sheet.specs.declared.fault.Cause.TheVariants.{LineNotEnded, WrongLetter, NotNumbers}
 use Rattle.std.proofs.lemmas.List.{append_assoc, append-nil, length-append, length-drop, take_at, drop_at, drop-drop}
 use Rattle.std.proofs.lemmas.Bool.{cond-true, cond-false, lt-ltb, le-leb, leb-true, eq-eqb, ne_eqb, and_from, and_parts}
@@ -30,7 +30,7 @@ line_of_text p body r h =
     let long : length t ≡ length body + suc (length r) = length-append body (10 ∷ r) in
     let front = take_at body (10 ∷ r) (up_to 10 t) (sym at) in
     let back : drop (up_to 10 t + 1) t ≡ r = sym (drop-drop 1 (up_to 10 t) t) ∙ ap (drop 1) (drop_at body (10 ∷ r) (up_to 10 t) (sym at)) in
-    cond-true (ltb (up_to 10 t) (length t)) (Ok (take (up_to 10 t) t, drop (up_to 10 t + 1) t)) (Err (refusal LineNotEnded p)) (lt-ltb _ _ (omega arith))
+    ap (λ l. given l (refusal LineNotEnded p)) (cond-true (ltb (up_to 10 t) (length t)) (Some (take (up_to 10 t) t, drop (up_to 10 t + 1) t)) None (lt-ltb _ _ (omega arith)))
     ∙ (λ i. Ok (front i, back i))
 
 -- the parts of a line

@@ -15,9 +15,13 @@ use Rattle.sheet.specs.Parts.{up_to, spelled, spaced, former, further, latter}
 abbrev pub refusal : Cause → ℕ → Fault
 refusal c p = fault Sheet c p
 
--- the first line, without its end, and what follows it
+-- the first line, without its end, and what follows it, if it has an end
+abbrev pub line_if : List ℕ → Option (List ℕ × List ℕ)
+line_if t = cond (nat_lt (up_to 10 t) (length t)) (Some (take (up_to 10 t) t, drop (up_to 10 t + 1) t)) None
+
+-- the same, or the refusal of line p
 abbrev pub line_of : ℕ → List ℕ → Result (List ℕ × List ℕ) Fault
-line_of p t = demand (nat_lt (up_to 10 t) (length t)) (refusal LineNotEnded p) (Ok (take (up_to 10 t) t, drop (up_to 10 t + 1) t))
+line_of p t = given (line_if t) (refusal LineNotEnded p)
 
 -- the parts of a line that should be numbers, three, two or one, if its letter is the one that is due
 abbrev pub triples_if : ℕ → List ℕ → Option (List ℕ × List ℕ × List ℕ)

@@ -3,10 +3,7 @@ use Rattle.std.specs.Prelude.{ℕ, List, ◌∷◌, Some, None, Option}
 use Rattle.std.specs.Borrow.{Bor}
 use Rattle.sheet.specs.declared.read.Counts.{Counts}
 use Rattle.sheet.specs.declared.read.Pair.{Pair}
-use Rattle.sheet.specs.declared.read.Whole.{Whole}
-
-abbrev pub line_seen : Bor (List ℕ) × Bor (List ℕ) → List ℕ × List ℕ
-line_seen x = (x.0.now, x.1.now)
+use Rattle.sheet.specs.declared.read.Head.{Head}
 
 abbrev pub triples_seen : Option (Bor (List ℕ) × Bor (List ℕ) × Bor (List ℕ)) → Option (List ℕ × List ℕ × List ℕ)
 triples_seen None = None
@@ -34,5 +31,5 @@ abbrev pub rest_seen : List ℕ → Bor (List ℕ) → List ℕ × List ℕ
 rest_seen before x = (before, x.now)
 
 -- the list that a whole text gives
-abbrev pub whole_seen : Whole → List ℕ
-whole_seen w = w.counts.inputs ∷ w.counts.latches ∷ w.counts.gates ∷ w.bad ∷ w.pairs.items
+abbrev pub whole_seen : List ℕ → Head → List ℕ
+whole_seen pairs h = h.counts.inputs ∷ h.counts.latches ∷ h.counts.gates ∷ h.bad ∷ pairs

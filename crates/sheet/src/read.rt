@@ -1,16 +1,16 @@
 // Reads the text of a sheet into the list that lays it out. Each line is cut into the parts that should be numbers, and
 // those are then read; the numbers are gathered apart from the lent list, so that a refusal writes nothing to it.
-ghost use Rattle.std.specs.Prelude.{◌≡◌, ◌+◌, ◌-◌, ◌*◌, ◌^◌, ◌<◌, ◌≤◌, ◌∷◌, ◌++◌, length, replicate, position, ◌==◌, IfOk, OnOk};
+ghost use Rattle.std.specs.Prelude.{◌≡◌, ◌+◌, ◌-◌, ◌*◌, ◌^◌, ◌<◌, ◌≤◌, [], ◌∷◌, ◌++◌, length, replicate, position, ◌==◌, IfOk, OnOk};
 ghost use Rattle.arrayvec.specs.ArrayVec.{array_vec_len};
 ghost use Rattle.lists.specs.Counted.{counted};
 ghost use Rattle.sheet.specs.Faults.{map_ok};
 ghost use Rattle.sheet.specs.Parts.{up_to, spelled, spaced, former, further, latter, shape, seen};
-ghost use Rattle.sheet.specs.Parse.{refusal, line_of, triples_if, parts_if, part_if, number_of, read_contents, letter, read_pair, read_pairs, read_bad, parse, read_text};
+ghost use Rattle.sheet.specs.Parse.{refusal, line_if, triples_if, parts_if, part_if, number_of, read_contents, letter, read_pair, read_pairs, read_bad, parse, read_text};
 ghost use Rattle.sheet.specs.FirstLine.{Judged};
 ghost use Rattle.sheet.specs.Reasons.{Reasoned};
 ghost use Rattle.sheet.specs.Sheets.{Legal};
 ghost use Rattle.sheet.specs.Trip.{AcceptsLegalSheets, WritesBack};
-ghost use Rattle.sheet.specs.Seen.{line_seen, triples_seen, parts_seen, part_seen, contents_seen, pair_seen, rest_seen, bad_seen, whole_seen};
+ghost use Rattle.sheet.specs.Seen.{triples_seen, parts_seen, part_seen, contents_seen, pair_seen, rest_seen, bad_seen, whole_seen};
 
 use crate::fault::{Cause, Fault, Layer};
 use crate::line::{Due, Line, in_order, in_range};
@@ -28,12 +28,11 @@ struct Counts {
 // The pairs of numbers of latches and gates: a legal sheet has at most 224.
 type Pairs = ArrayVec<u32, 448>;
 
-// All that a text says.
-#[derive(Drop)]
-struct Whole {
+// The numbers of a sheet before its pairs.
+#[derive(Clone, Copy)]
+struct Head {
     counts: Counts,
     bad: u32,
-    pairs: Pairs,
 }
 
 // Which line of two numbers is due, at which place of the text, the largest literal, and the node that the line is of.
@@ -160,15 +159,15 @@ fn cut(line: &[u8]) -> Option<Line<'_>>
     }
 }
 
-// The first line of `text`, without its end, and what follows it.
-fn first_line(text: &[u8], place: u32) -> Result<(&[u8], &[u8]), Fault>
-    ensures { map_ok line_seen result ≡ line_of place text.now }
+// The first line of `text`, without its end, and what follows it, if it has an end.
+fn first_line(text: &[u8]) -> Option<(&[u8], &[u8])>
+    ensures { parts_seen result ≡ line_if text.now }
 {
     let end = up_to(text, b'\n');
     if end == text.len() {
-        return Err(refuse(Cause::LineNotEnded, place));
+        return None;
     }
-    Ok((&text[0..end], &text[end + 1..]))
+    Some((&text[0..end], &text[end + 1..]))
 }
 
 // The three parts of a contents line.
@@ -207,7 +206,9 @@ fn read_contents(text: &[u8]) -> Result<(Counts, &[u8]), Fault>
     ensures read_off { map_ok contents_seen result ≡ read_contents text.now }
     ensures within { IfOk result (λ c. (c.0.inputs ≤ 24) × (c.0.latches ≤ 24) × (c.0.gates ≤ 200)) }
 {
-    let (line, rest) = first_line(text, 1)?;
+    let Some((line, rest)) = first_line(text) else {
+        return Err(refuse(Cause::LineNotEnded, 1));
+    };
     let Some((inputs, latches, gates)) = contents_due(line) else {
         return Err(refuse(Cause::WrongLetter, 1));
     };
@@ -229,7 +230,9 @@ fn read_contents(text: &[u8]) -> Result<(Counts, &[u8]), Fault>
 fn read_pair(text: &[u8], rule: Rule) -> Result<Pair<'_>, Fault>
     ensures { map_ok pair_seen result ≡ read_pair rule.due rule.most rule.own rule.place text.now }
 {
-    let (line, rest) = first_line(text, rule.place)?;
+    let Some((line, rest)) = first_line(text) else {
+        return Err(refuse(Cause::LineNotEnded, rule.place));
+    };
     let Some((first, second)) = parts_due(line, rule.due) else {
         return Err(refuse(Cause::WrongLetter, rule.place));
     };
@@ -252,7 +255,9 @@ fn read_pair(text: &[u8], rule: Rule) -> Result<Pair<'_>, Fault>
 fn read_bad(text: &[u8], place: u32, most: u32) -> Result<(u32, &[u8]), Fault>
     ensures { map_ok bad_seen result ≡ read_bad most place text.now }
 {
-    let (line, rest) = first_line(text, place)?;
+    let Some((line, rest)) = first_line(text) else {
+        return Err(refuse(Cause::LineNotEnded, place));
+    };
     let Some(bad) = bad_due(line) else {
         return Err(refuse(Cause::WrongLetter, place));
     };
@@ -292,9 +297,11 @@ fn read_pairs<'a>(
     Ok(rest)
 }
 
-// The whole text.
-fn read_all(text: &[u8]) -> Result<Whole, Fault>
-    ensures { map_ok whole_seen result ≡ parse text.now }
+// The whole text. The numbers of latches and gates are added to `pairs`, which the caller keeps: a result is moved, and a
+// vector of this size would be moved with it.
+fn read_all(text: &[u8], pairs: &mut Pairs) -> Result<Head, Fault>
+    requires { pairs.old.items ≡ [] }
+    ensures { map_ok (whole_seen pairs.new.items) result ≡ parse text.now }
 {
     if text.len() > 4096 {
         return Err(refuse(Cause::TextTooLong, 0));
@@ -313,27 +320,25 @@ fn read_all(text: &[u8]) -> Result<Whole, Fault>
         most,
         own: 1 + counts.inputs + counts.latches,
     };
-    let mut pairs = Pairs::new();
-    let rest = read_pairs(rest, first_latch, counts.latches, &mut pairs)?;
-    let rest = read_pairs(rest, first_gate, counts.gates, &mut pairs)?;
+    let rest = read_pairs(rest, first_latch, counts.latches, pairs)?;
+    let rest = read_pairs(rest, first_gate, counts.gates, pairs)?;
     let (bad, rest) = read_bad(rest, 2 + counts.latches + counts.gates, most)?;
     if !rest.is_empty() {
         return Err(refuse(Cause::TextGoesOn, 3 + counts.latches + counts.gates));
     }
-    Ok(Whole { counts, bad, pairs })
+    Ok(Head { counts, bad })
 }
 
 // Writes what was read, and zeros behind it.
-fn store(list: &mut [u32], whole: &Whole)
-    requires { length (whole_seen whole.now) ≤ length list.old }
-    ensures { list.new ≡ whole_seen whole.now ++ replicate (length list.old - length (whole_seen whole.now)) 0 }
+fn store(list: &mut [u32], head: Head, pairs: &[u32])
+    requires { length (whole_seen pairs.now head) ≤ length list.old }
+    ensures { list.new ≡ whole_seen pairs.now head ++ replicate (length list.old - length (whole_seen pairs.now head)) 0 }
 {
-    let pairs = whole.pairs.as_slice();
     list.fill(0);
-    list[0] = whole.counts.inputs;
-    list[1] = whole.counts.latches;
-    list[2] = whole.counts.gates;
-    list[3] = whole.bad;
+    list[0] = head.counts.inputs;
+    list[1] = head.counts.latches;
+    list[2] = head.counts.gates;
+    list[3] = head.bad;
     list[4..4 + pairs.len()].copy_from_slice(pairs);
 }
 
@@ -348,12 +353,13 @@ pub fn read(text: &[u8], list: &mut [u32]) -> Result<usize, Fault>
     ensures leaves_a_legal_list { IfOk result (λ n. Legal (counted list.new) × (n ≤ length list.new)) }
     ensures is_written_back { OnOk result (WritesBack text.now list.new) }
 {
-    let whole = read_all(text)?;
-    let count = 4 + whole.pairs.len();
+    let mut pairs = Pairs::new();
+    let head = read_all(text, &mut pairs)?;
+    let count = 4 + pairs.len();
     let places = counted_len(list.len());
     if places < count {
         return Err(refuse(Cause::ListTooShort, 0));
     }
-    store(&mut list[0..places], &whole);
+    store(&mut list[0..places], head, pairs.as_slice());
     Ok(count)
 }

@@ -4,4 +4,4 @@ use Rattle.sheet.proofs.read.first_line.Goals as goal
 
 pub returns : goal.returns
 returns c =
-    line_cut c.args.place c.up_to-end.result c.args.text.now c.up_to-end.ensures.first (omega arith)
+    line_cut c.up_to-end.result c.args.text.now c.up_to-end.ensures.first (omega arith)

@@ -1,4 +1,4 @@
-use Rattle.std.proofs.Common.{◌+◌, arith}
+use Rattle.std.proofs.Common.{◌≡◌, ◌+◌, ◌-◌, ◌++◌, length, take, replicate, subst, arith}
 use Rattle.std.proofs.lemmas.Result.{err_from_is_err_and}
 use Rattle.sheet.specs.Seen.{whole_seen}
 use Rattle.sheet.proofs.ReadStored.{read_refused, read_short, read_stored}
@@ -8,10 +8,10 @@ use Rattle.sheet.proofs.ReadReasons.{reasoned}
 use Rattle.sheet.proofs.Trips.{accepts, read_again, read_formed}
 use Rattle.sheet.proofs.read.read.Goals as goal
 
-pub returns-in_err-whole : goal.returns-in_err-whole
-returns-in_err-whole c =
+pub returns-in_err-head : goal.returns-in_err-head
+returns-in_err-head c =
     let p = err_from_is_err_and c.from_residual.result c.from_residual.ensures.1 in
-    let whole = read_refused c.args.text.now c.args.list.now c.in_err-whole.field-0.0 c.in_err-whole.ensures in
+    let whole = read_refused c.args.text.now c.args.list.now c.in_err-head.field-0.0 c.in_err-head.ensures in
     record {
       reads_exactly_the_format = rw (p.1, p.2) whole;
       names_the_first_wrong_line = rw (p.1, p.2) (judged c.args.text.now c.args.list.now c.args.list.now _ whole);
@@ -23,7 +23,7 @@ returns-in_err-whole c =
 
 pub returns-then-places-count : goal.returns-then-places-count
 returns-then-places-count c =
-    let whole = read_short c.args.text.now c.args.list.now (whole_seen c.in_ok-whole.whole) c.counted_len-places.result (4 + c.len-count.result) c.in_ok-whole.ensures (omega arith) c.counted_len-places.ensures (omega arith) in
+    let whole = read_short c.args.text.now c.args.list.now (whole_seen c.read_all.new.pairs.items c.in_ok-head.head) c.counted_len-places.result (4 + c.len-count.result) c.in_ok-head.ensures (omega arith) c.counted_len-places.ensures (omega arith) in
     record {
       reads_exactly_the_format = rw c.refuse.ensures whole;
       names_the_first_wrong_line = rw c.refuse.ensures (judged c.args.text.now c.args.list.now c.args.list.now _ whole);
@@ -35,7 +35,10 @@ returns-then-places-count c =
 
 pub returns : goal.returns
 returns c =
-    let whole = read_stored c.args.text.now c.args.list.now (whole_seen c.in_ok-whole.whole) c.store.new.list c.counted_len-places.result (4 + c.len-count.result) c.in_ok-whole.ensures (omega arith) c.counted_len-places.ensures (omega arith) c.store.ensures in
+    let made =
+    subst (λ pairs. c.store.new.list ≡ whole_seen pairs c.in_ok-head.head ++ replicate (length (take (c.counted_len-places.result - 0) c.args.list.now) - length (whole_seen pairs c.in_ok-head.head)) 0)
+    c.as_slice.ensures.value c.store.ensures in
+    let whole = read_stored c.args.text.now c.args.list.now (whole_seen c.read_all.new.pairs.items c.in_ok-head.head) c.store.new.list c.counted_len-places.result (4 + c.len-count.result) c.in_ok-head.ensures (omega arith) c.counted_len-places.ensures (omega arith) made in
     record {
       reads_exactly_the_format = whole;
       names_the_first_wrong_line = judged c.args.text.now c.args.list.now _ _ whole;

@@ -7,8 +7,8 @@ pub returns : goal.returns
 returns c =
     let zeros = c.fill.ensures.after (λ y e. e) in
     let copied = c.copy_from_slice.ensures.after in
-    let pairs = c.as_slice-pairs.ensures.value in
-    let w = c.args.whole.now in
-    let is = store_all (length c.args.list.now) w.counts.inputs w.counts.latches w.counts.gates w.bad w.pairs.items (omega (arith, c.requires)) in
-    let long : length (whole_seen w) ≡ 4 + length w.pairs.items = omega arith in
+    let h = c.args.head in
+    let pairs = c.args.pairs.now in
+    let is = store_all (length c.args.list.now) h.counts.inputs h.counts.latches h.counts.gates h.bad pairs (omega (arith, c.requires)) in
+    let long : length (whole_seen pairs h) ≡ 4 + length pairs = omega arith in
     cc
