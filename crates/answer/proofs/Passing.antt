@@ -1,7 +1,8 @@
 -- A pass over two clauses, from literal to literal. Assumes nothing.
 use Rattle.std.proofs.Common.{◌≡◌, ℕ, ◌+◌, ◌-◌, ◌*◌, ◌<◌, ◌≤◌, min, Bool, true, false, cond, eqb, leb, ◌&&◌, ◌||◌, ◌⊎◌, List, [], ◌∷◌, ◌++◌, length, get_or, take, drop, Some, None, Option, is_some, sym, refl, ap, ◌∙◌, subst, ⊎_elim, arith, length-drop}
 use Rattle.std.specs.Bool.{then_some}
-use Rattle.std.proofs.lemmas.Bool.{false≢true, cond-true, cond-false, lt-ltb, le-ltb, le-leb, lt-leb, leb-true, cases_lt}
+use Rattle.std.specs.Int.{from_bool}
+use Rattle.std.proofs.lemmas.Bool.{false≢true, cond-true, cond-false, lt-ltb, le-ltb, le-leb, lt-leb, eq-eqb, ne_eqb, leb-true, cases_lt}
 use Rattle.std.proofs.lemmas.List.{append-nil, take_all}
 use Rattle.answer.specs.declared.passes.Tally.{Tally}
 use Rattle.answer.specs.Joint.{union, has}
@@ -126,6 +127,19 @@ union_next (x ∷ xs) (y ∷ ys) some other = union_turn x y xs ys
 -- the rest of a list from its second place
 pub went : (f f' : List ℕ) → f' ≡ take (length f - 1) (drop 1 f) → f' ≡ drop 1 f
 went f f' e = e ∙ take_all (length f - 1) (drop 1 f) (simp length-drop (omega arith))
+
+-- the list goes on by a place if b
+pub goes : (b : Bool) (k : ℕ) (f f' : List ℕ) → k ≡ from_bool b → f' ≡ take (length f - k) (drop k f) → f' ≡ cond b (drop 1 f) f
+goes true k f f' is e = went f f' (e ∙ ap (λ n. take (length f - n) (drop n f)) is)
+goes false k f f' is e = e ∙ ap (λ n. take (length f - n) (drop n f)) is ∙ take_all (length f - 0) f (omega arith)
+
+-- of a number that is no lower than another, that it is no higher says that the two are the same
+pub tied : (x y : ℕ) → y ≤ x → leb x y ≡ eqb x y
+tied x y h =
+    ⊎_elim
+    (λ (l : y < x). lt-leb x y l ∙ sym (ne_eqb x y (λ (e : x ≡ y). omega (arith, l, e))))
+    (λ (l : x ≤ y). le-leb x y l ∙ sym (eq-eqb x y (omega arith)))
+    (cases_lt y x)
 
 union_none : (xs : List ℕ) → union xs [] ≡ xs ++ []
 union_none [] = refl

@@ -80,12 +80,12 @@ pub(crate) fn join(
         if x < y {
             tally = tally.keep(free, *x, true, false)?;
             first = xs;
-        } else if y < x {
-            tally = tally.keep(free, *y, false, true)?;
-            second = ys;
         } else {
-            tally = tally.keep(free, *x, true, true)?;
-            first = xs;
+            // The order of two literals can't be foreseen, so the loop branches on it once. Where both clauses have the
+            // literal, the first goes on too, by a count of places: a second branch would be as hard to foresee.
+            let both = x == y;
+            tally = tally.keep(free, *y, both, true)?;
+            first = &first[usize::from(both)..];
             second = ys;
         }
     }

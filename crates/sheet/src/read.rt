@@ -297,7 +297,7 @@ fn read_pairs<'a>(
     Ok(rest)
 }
 
-// The whole text. The numbers of latches and gates are added to `pairs`, which the caller keeps: a result is moved, and a
+// The whole text. The pairs of its latches and gates are added to `pairs`, which the caller keeps: a result is moved, and a
 // vector of this size would be moved with it.
 fn read_all(text: &[u8], pairs: &mut Pairs) -> Result<Head, Fault>
     requires { pairs.old.items ≡ [] }
