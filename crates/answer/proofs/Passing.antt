@@ -133,7 +133,7 @@ pub goes : (b : Bool) (k : ℕ) (f f' : List ℕ) → k ≡ from_bool b → f' �
 goes true k f f' is e = went f f' (e ∙ ap (λ n. take (length f - n) (drop n f)) is)
 goes false k f f' is e = e ∙ ap (λ n. take (length f - n) (drop n f)) is ∙ take_all (length f - 0) f (omega arith)
 
--- of a number that is no lower than another, that it is no higher says that the two are the same
+-- where y ≤ x, x ≤ y says that the two are the same
 pub tied : (x y : ℕ) → y ≤ x → leb x y ≡ eqb x y
 tied x y h =
     ⊎_elim

@@ -81,8 +81,8 @@ pub(crate) fn join(
             tally = tally.keep(free, *x, true, false)?;
             first = xs;
         } else {
-            // The order of two literals can't be foreseen, so the loop branches on it once. Where both clauses have the
-            // literal, the first goes on too, by a count of places: a second branch would be as hard to foresee.
+            // Which literal is the lower one often can't be foreseen, so the loop branches on it once. Where both clauses have
+            // the literal, the first goes on too, by a count of places: a second branch would be as hard to foresee.
             let both = x == y;
             tally = tally.keep(free, *y, both, true)?;
             first = &first[usize::from(both)..];
